@@ -153,8 +153,8 @@ pub fn read_signed(s: &[u8], at: usize, width: u32) -> Signed
         Digits::Run(low, k, b) => match whole_signed(low, k, b, width - 1) {
             BoundedSigned::Over => Signed::Refused(Refusal::Width, at),
             BoundedSigned::Fits(v) => {
-                let next = at + (k as usize + 1);
-                Signed::Value(v, next)
+                let past = at + (k as usize + 1);
+                Signed::Value(v, past)
             }
         },
     }
@@ -218,9 +218,9 @@ fn count_digits(x: u64, limit: u64) -> usize
     ensures { λ r. ⌜ r ≡ length (short limit false x) ⌝ }
 {
     let mut n: usize = 1;
-    let mut m = x;
-    while limit <= m {
-        m = m / 128;
+    let mut rest = x;
+    while limit <= rest {
+        rest = rest / 128;
         n += 1;
     }
     n

@@ -26,16 +26,16 @@ add-n : tie.Need-add-n Inv-loop μ-loop
 add-n c =
     let b = c .before .before in
     let h : b .args .x < b .args .limit * 2 ^ (7 * 9) = omega arith in
-    omega (arith, short-le (b .args .limit) (search needs) false (b .args .x) 9 h, short-some (b .args .limit) (search needs) false (c .before .loop .m))
+    omega (arith, short-le (b .args .limit) (search needs) false (b .args .x) 9 h, short-some (b .args .limit) (search needs) false (c .before .loop .rest))
 
 loop-less : tie.Need-loop-less Inv-loop μ-loop
 loop-less c = search needs
 
 loop-again : tie.Need-loop-again Inv-loop μ-loop
-loop-again c = omega (arith, length-more (c .before .before .args .limit) (search needs) false [] 0 (c .before .loop .m) 0 (c .loop-test .taken))
+loop-again c = omega (arith, length-more (c .before .before .args .limit) (search needs) false [] 0 (c .before .loop .rest) 0 (c .loop-test .taken))
 
 returns : tie.Need-returns Inv-loop μ-loop
-returns c = omega (arith, length-end (c .before .before .args .limit) (search needs) false [] 0 (c .before .loop .m) 0 (c .loop-test .left))
+returns c = omega (arith, length-end (c .before .before .args .limit) (search needs) false [] 0 (c .before .loop .rest) 0 (c .loop-test .left))
 
 pub count-digits-spec : {M : Type 1} → statement M
 count-digits-spec =

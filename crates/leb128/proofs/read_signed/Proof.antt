@@ -44,16 +44,16 @@ enum-known-v : tie.Need-enum-known-v
 enum-known-v c = search needs
 
 -- src/lib.rt:157:34
-cast-next : tie.Need-cast-next
-cast-next c = search needs
+cast-past : tie.Need-cast-past
+cast-past c = search needs
 
 -- src/lib.rt:157:34
-add-next : tie.Need-add-next
-add-next c = search needs
+add-past : tie.Need-add-past
+add-past c = search needs
 
 -- src/lib.rt:157:28
-add-next-2 : tie.Need-add-next-2
-add-next-2 c = search answers
+add-past-2 : tie.Need-add-past-2
+add-past-2 c = search answers
 
 -- src/lib.rt:147:1
 returns : tie.Need-returns
@@ -84,9 +84,9 @@ read-signed-spec =
     whole-signed-requires
     enum-told-3
     enum-known-v
-    cast-next
-    add-next
-    add-next-2
+    cast-past
+    add-past
+    add-past-2
     returns
     returns-2
     returns-3

@@ -1,0 +1,2 @@
+pub mod U32
+pub mod Cases

@@ -1,0 +1,7 @@
+// Runs worked tables and published examples, and prints what the calls answered.
+mod leb;
+mod text;
+
+fn main() {
+    leb::run();
+}
