@@ -11,7 +11,8 @@ use lib.IntN.{ℤ}
 use mir.Syntax.{w64}
 use mir.Val.{Fits, toZ, ofZ}
 use Rattle.answer.specs.declared.Refusal.the-variants.{Missing, Width}
-use Rattle.leb128.specs.Number.{IsWidth, Scanned, Parts, Held, HeldSigned, cut, long, got, signed, readUnsigned, readSigned}
+use Rattle.leb128.specs.Number.{IsWidth, cut, long, got, signed, readUnsigned, readSigned}
+use Rattle.leb128.specs.Inner.{Scanned, Parts, Held, HeldSigned}
 use Rattle.leb128.specs.declared.Unsigned.the-variants.{Value as UValue, Refused as URefused}
 use Rattle.leb128.specs.declared.Signed.the-variants.{Value as SValue, Refused as SRefused}
 use Rattle.leb128.specs.declared.Digits.{Digits}

@@ -17,6 +17,7 @@ use lib.Signed.{mag, _≤ℤ_, _<ℤ_}
 use lib.Pow.{pow-pos}
 use borrow.Author.Tests.{ltb-true, ltb-false, lt-ltb}
 use Rattle.leb128.specs.Number.{Raw, cut, long, got, more, raw, count, unsignedOf, readUnsigned, signed, signedOf, readSigned, short, shortUnsigned, isNeg, shortSigned, Written}
+use Rattle.answer.specs.Bytes.{Bytes, bytes-drop}
 use Rattle.answer.specs.declared.Refusal.the-variants.{Missing, Width}
 use Rattle.leb128.specs.declared.Unsigned.{Unsigned}
 use Rattle.leb128.specs.declared.Unsigned.the-variants.{Value as UValue, Refused as URefused}
@@ -122,10 +123,6 @@ pub between-signed : (B : ℕ) (z : ℤ) (s t : List ℕ) → 0 < B → mag z < 
 between-signed B z s t b h = read-short-signed B z (s ++ (shortSigned z ++ t)) (length s) t b h (drop-append-seam s (shortSigned z ++ t))
 
 -- ---- no form is shorter than the shortest
-abbrev pub Bytes : List ℕ → Type 0
-Bytes [] = Unit {0}
-Bytes (b ∷ l) = (b < 256) × Bytes l
-
 abbrev pub Below : Raw → Type 0
 Below cut = Unit {0}
 Below long = Unit {0}
@@ -146,9 +143,9 @@ below (suc n) (b ∷ l) h = pick (ltb b 128) refl (below n l (h .1))
     pick true e k = ltb-true b 128 e
     pick false e k = below-more (b - 128) (raw n l) (omega (arith, h .0)) k
 
-pub shortest-unsigned : (n : ℕ) (l : List ℕ) (v k : ℕ) → Bytes l → 0 < k → raw n l ≡ got v k → length (shortUnsigned v) ≤ k
-shortest-unsigned n l v zero h p e = absurd (omega arith)
-shortest-unsigned n l v (suc j) h p e =
+shortest-raw : (n : ℕ) (l : List ℕ) (v k : ℕ) → Bytes l → 0 < k → raw n l ≡ got v k → length (shortUnsigned v) ≤ k
+shortest-raw n l v zero h p e = absurd (omega arith)
+shortest-raw n l v (suc j) h p e =
     let m : v < 2 ^ (7 * suc j) = subst Below e (below n l h) in
     omega (arith, short-le 128 (lit< tt) false v j (omega (arith, pow-suc7 j)))
 
@@ -160,12 +157,49 @@ signed-lt v k w e f h = pick (ltb v (2 ^ (7 * k - 1))) refl
     pick true g = omega (arith, ltb-true v (2 ^ (7 * k - 1)) g)
     pick false g = omega (arith, ltb-false v (2 ^ (7 * k - 1)) g)
 
-pub shortest-signed : (n : ℕ) (l : List ℕ) (v k : ℕ) → Bytes l → 0 < k → raw n l ≡ got v k → length (shortSigned (signed v k)) ≤ k
-shortest-signed n l v zero h p e = absurd (omega arith)
-shortest-signed n l v (suc j) h p e =
+shortest-raw-signed : (n : ℕ) (l : List ℕ) (v k : ℕ) → Bytes l → 0 < k → raw n l ≡ got v k → length (shortSigned (signed v k)) ≤ k
+shortest-raw-signed n l v zero h p e = absurd (omega arith)
+shortest-raw-signed n l v (suc j) h p e =
     let m : mag (signed v (suc j)) < 64 * 2 ^ (7 * j) =
     signed-lt v (suc j) (64 * 2 ^ (7 * j)) (rw pow-suc7 (omega arith)) (ap (λ (x : ℕ). 2 ^ (7 * x - 1)) (sym (add-one j)) ∙ half j) (subst Below e (below n l h)) in
     omega (arith, short-le 64 (lit< tt) (isNeg (signed v (suc j))) (mag (signed v (suc j))) j m)
+
+-- the bytes behind a value that was read
+module _ (B : ℕ) (s : List ℕ) (at : ℕ) (bytes : Bytes s) where
+  shortest-unsigned-of : {v next : ℕ} (r : Raw) → raw (count B) (drop at s) ≡ r → unsignedOf B (length s) at r ≡ UValue v next → at + length (shortUnsigned v) ≤ next
+  shortest-unsigned-of cut e f = let z : _≡_ {A = ℕ} 0 1 = cc in absurd (omega arith)
+  shortest-unsigned-of long e f = let z : _≡_ {A = ℕ} 0 1 = cc in absurd (omega arith)
+  shortest-unsigned-of {v} {next} (got u k) e f = pick (ltb u (2 ^ B)) f
+    where
+      pick : (t : Bool) → cond t (UValue u (at + k)) (URefused Width at) ≡ UValue v next → at + length (shortUnsigned v) ≤ next
+      pick true g =
+          let a : u ≡ v = cc in
+          let b : at + k ≡ next = cc in
+          let n = next-le (count B) s at u k e in
+          omega (arith, n .0, ap (λ (x : ℕ). length (shortUnsigned x)) a, shortest-raw (count B) (drop at s) u k (bytes-drop at s bytes) (omega arith) e)
+      pick false g = let z : _≡_ {A = ℕ} 0 1 = cc in absurd (omega arith)
+
+  -- no spelling that reads as a value is shorter than its shortest form
+  pub shortest-unsigned : {v next : ℕ} → readUnsigned B s at ≡ UValue v next → at + length (shortUnsigned v) ≤ next
+  unfolding readUnsigned
+  shortest-unsigned f = shortest-unsigned-of (raw (count B) (drop at s)) refl f
+
+  shortest-signed-of : {z : ℤ} {next : ℕ} (r : Raw) → raw (count B) (drop at s) ≡ r → signedOf B (length s) at r ≡ SValue z next → at + length (shortSigned z) ≤ next
+  shortest-signed-of cut e f = let o : _≡_ {A = ℕ} 0 1 = cc in absurd (omega arith)
+  shortest-signed-of long e f = let o : _≡_ {A = ℕ} 0 1 = cc in absurd (omega arith)
+  shortest-signed-of {z} {next} (got u k) e f = pick (ltb (mag (signed u k)) (2 ^ (B - 1))) f
+    where
+      pick : (t : Bool) → cond t (SValue (signed u k) (at + k)) (SRefused Width at) ≡ SValue z next → at + length (shortSigned z) ≤ next
+      pick true g =
+          let a : signed u k ≡ z = cc in
+          let b : at + k ≡ next = cc in
+          let n = next-le (count B) s at u k e in
+          omega (arith, n .0, ap (λ (x : ℤ). length (shortSigned x)) a, shortest-raw-signed (count B) (drop at s) u k (bytes-drop at s bytes) (omega arith) e)
+      pick false g = let o : _≡_ {A = ℕ} 0 1 = cc in absurd (omega arith)
+
+  pub shortest-signed : {z : ℤ} {next : ℕ} → readSigned B s at ≡ SValue z next → at + length (shortSigned z) ≤ next
+  unfolding readSigned
+  shortest-signed f = shortest-signed-of (raw (count B) (drop at s)) refl f
 
 -- ---- `mag z < H` is - H ≤ z < H
 pub in-range : (H : ℕ) (z : ℤ) → negℤ (pos H) ≤ℤ z → z <ℤ pos H → mag z < H

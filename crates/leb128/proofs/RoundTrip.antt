@@ -66,17 +66,24 @@ module _ (limit : ℕ) (low : 0 < limit) (high : limit ≤ 128) (neg : Bool) (re
       (λ m h n. rw (short-end limit low neg m h) (reads-end m n h))
       (λ m h ih n. rw (short-more limit low neg m h) (reads-more m n ih))
 
+-- ---- a value of B bits takes no more bytes than a number of that width may
+pub unsigned-bytes : (B x : ℕ) → 0 < B → x < 2 ^ B → length (shortUnsigned x) ≤ count B
+unsigned-bytes B x wide small =
+    let h : B ≤ 7 + 7 * ((B - 1) / 7) = omega arith in
+    let l : x < 128 * 2 ^ (7 * ((B - 1) / 7)) = omega (arith, pow-mono h, pow-add 2 7 (7 * ((B - 1) / 7))) in
+    omega (arith, short-le 128 (lit< tt) false x ((B - 1) / 7) l)
+
+pub signed-bytes : (B : ℕ) (z : ℤ) → 0 < B → mag z < 2 ^ (B - 1) → length (shortSigned z) ≤ count B
+signed-bytes B z wide small =
+    let h : B - 1 ≤ 6 + 7 * ((B - 1) / 7) = omega arith in
+    let l : mag z < 64 * 2 ^ (7 * ((B - 1) / 7)) = omega (arith, pow-mono h, pow-add 2 6 (7 * ((B - 1) / 7))) in
+    omega (arith, short-le 64 (lit< tt) (isNeg z) (mag z) ((B - 1) / 7) l)
+
 -- ---- the unsigned number
 module _ (B x : ℕ) (s : List ℕ) (at : ℕ) (rest : List ℕ) (wide : 0 < B) (small : x < 2 ^ B) (here : drop at s ≡ shortUnsigned x ++ rest) where
-  fits-unsigned : length (shortUnsigned x) ≤ count B
-  fits-unsigned =
-      let h : B ≤ 7 + 7 * ((B - 1) / 7) = omega arith in
-      let l : x < 128 * 2 ^ (7 * ((B - 1) / 7)) = omega (arith, pow-mono h, pow-add 2 7 (7 * ((B - 1) / 7))) in
-      omega (arith, short-le 128 (lit< tt) false x ((B - 1) / 7) l)
-
   pub read-short-unsigned : readUnsigned B s at ≡ UValue x (at + length (shortUnsigned x))
   unfolding readUnsigned
-  read-short-unsigned = rw (here, raw-short 128 (lit< tt) (lit≤ tt) false rest x (count B) fits-unsigned, lt-ltb x (2 ^ B) small)
+  read-short-unsigned = rw (here, raw-short 128 (lit< tt) (lit≤ tt) false rest x (count B) (unsigned-bytes B x wide small), lt-ltb x (2 ^ B) small)
 
 -- ---- the signed number
 signed-back : (z : ℤ) (w k : ℕ) → 2 ^ (7 * k) ≡ w * 2 → 2 ^ (7 * k - 1) ≡ w → mag z < w → signed (val (isNeg z) (mag z) (2 ^ (7 * k))) k ≡ z
@@ -86,12 +93,6 @@ signed-back (negsuc m) w k e f h =
     rw (le-ltb (2 ^ (7 * k) - suc m) (2 ^ (7 * k - 1)) (omega arith)) (ap negsuc (omega arith))
 
 module _ (B : ℕ) (z : ℤ) (s : List ℕ) (at : ℕ) (rest : List ℕ) (wide : 0 < B) (small : mag z < 2 ^ (B - 1)) (here : drop at s ≡ shortSigned z ++ rest) where
-  fits-signed : length (shortSigned z) ≤ count B
-  fits-signed =
-      let h : B - 1 ≤ 6 + 7 * ((B - 1) / 7) = omega arith in
-      let l : mag z < 64 * 2 ^ (7 * ((B - 1) / 7)) = omega (arith, pow-mono h, pow-add 2 6 (7 * ((B - 1) / 7))) in
-      omega (arith, short-le 64 (lit< tt) (isNeg z) (mag z) ((B - 1) / 7) l)
-
   back : signed (val (isNeg z) (mag z) (2 ^ (7 * length (shortSigned z)))) (length (shortSigned z)) ≡ z
   back =
       let j = short-size 64 (lit< tt) (isNeg z) (mag z) in
@@ -100,4 +101,4 @@ module _ (B : ℕ) (z : ℤ) (s : List ℕ) (at : ℕ) (rest : List ℕ) (wide :
   pub read-short-signed : readSigned B s at ≡ SValue z (at + length (shortSigned z))
   unfolding readSigned
   read-short-signed =
-      rw (here, raw-short 64 (lit< tt) (lit≤ tt) (isNeg z) rest (mag z) (count B) fits-signed, back, lt-ltb (mag z) (2 ^ (B - 1)) small)
+      rw (here, raw-short 64 (lit< tt) (lit≤ tt) (isNeg z) rest (mag z) (count B) (signed-bytes B z wide small), back, lt-ltb (mag z) (2 ^ (B - 1)) small)

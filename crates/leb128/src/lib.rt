@@ -6,7 +6,8 @@ ghost use lib.ListN.{length, drop};
 ghost use lib.Dec.{ltb};
 ghost use lib.Signed.{mag};
 ghost use lib.IntN.{ℤ, pos, negsuc};
-ghost use Rattle.leb128.specs.Number.{IsWidth, Scanned, Parts, Held, HeldSigned, signed, readUnsigned, readSigned, turn, short, shortUnsigned, isNeg, shortSigned, Room, Written};
+ghost use Rattle.leb128.specs.Number.{IsWidth, signed, readUnsigned, readSigned, turn, short, shortUnsigned, isNeg, shortSigned, Written};
+ghost use Rattle.leb128.specs.Inner.{Scanned, Parts, Held, HeldSigned, Room};
 use answer::Refusal;
 
 pub enum Unsigned {

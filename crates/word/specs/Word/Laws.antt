@@ -9,32 +9,13 @@ use native.Mathlib.Omega.{arith}
 use lib.Pow.{pow-add, shr-shr}
 use lib.ListN.{length, getD, take, drop, set, length-append, length-take, length-drop, List·getD-append, take-append-drop}
 use lib.Seq.{sets, sets-eq, length-sets, drop-cons, take-append-seam, drop-append-seam, drop-at, take-at, length-take-le, getD-take, getD-drop, getD-append-add, drop-drop, take-all}
+use Rattle.answer.specs.Bytes.{Bytes, bytes-drop, bytes-take}
 use Rattle.word.specs.Word.{valueOf, bytesIn, wordAt, withWord, firstWords, wordsOf, bytesOfWords}
-
--- each element is a byte
-abbrev pub Bytes : List ℕ → Type 0
-Bytes [] = Unit {0}
-Bytes (b ∷ l) = (b < 256) × Bytes l
 
 -- each word fits n bytes
 abbrev pub Words : ℕ → List ℕ → Type 0
 Words n [] = Unit {0}
 Words n (w ∷ ws) = (w < 2 ^ (8 * n)) × Words n ws
-
--- as a slice of bytes has it: at every index there is a byte
-pub bytes-of : (l : List ℕ) → ((i : ℕ) → getD l i 0 < 256) → Bytes l
-bytes-of [] h = tt
-bytes-of (b ∷ l) h = (h 0, bytes-of l (λ i. h (suc i)))
-
-pub bytes-drop : (k : ℕ) (l : List ℕ) → Bytes l → Bytes (drop k l)
-bytes-drop zero l h = h
-bytes-drop (suc k) [] h = tt
-bytes-drop (suc k) (b ∷ l) h = bytes-drop k l (h .1)
-
-pub bytes-take : (k : ℕ) (l : List ℕ) → Bytes l → Bytes (take k l)
-bytes-take zero l h = tt
-bytes-take (suc k) [] h = tt
-bytes-take (suc k) (b ∷ l) h = (h .0, bytes-take k l (h .1))
 
 pow-byte : (n : ℕ) → 2 ^ (8 * suc n) ≡ 2 ^ (8 * n) * 256
 pow-byte n = ap (λ (x : ℕ). 2 ^ x) e ∙ pow-add 2 (8 * n) 8
