@@ -1,0 +1,25 @@
+use Rattle.relr.proofs.Opening.{opening}
+use borrow.Author.Needs.{needs}
+use Rattle.relr.proofs.place.last.Statement.{statement}
+use Rattle.relr.proofs.place.last.Tie as tie
+use Rattle.relr.proofs.place.last.Reads as reads
+use Rattle.relr.proofs.place.last.Lts as lts
+
+-- src/place.rt:29:24
+enum-told : tie.Need-enum-told
+enum-told c = search needs
+
+-- src/place.rt:30:25
+enum-told-2 : tie.Need-enum-told-2
+enum-told-2 c = search needs
+
+-- src/place.rt:25:1
+returns : tie.Need-returns
+returns c = search opening
+
+-- src/place.rt:25:1
+returns-2 : tie.Need-returns-2
+returns-2 c = search opening
+
+pub last-spec : {M : Type 1} → statement M
+last-spec = tie.close (tie.spec enum-told enum-told-2 returns returns-2)

@@ -1,0 +1,55 @@
+-- What the inner functions promise.
+-- Assumes nothing.
+use mathlib.Core.Bool.{Bool, true, cond}
+use mathlib.Core.List.{List, [], _∷_, _++_}
+use mathlib.Core.Path.{_≡_}
+use Prim.Native.Nat.{ℕ, _+_, _^_, _%_, _/_, _≤_, _<_}
+use Rattle.answer.specs.declared.Refusal.the-variants.{Space}
+use Rattle.answer.specs.Outcome.{Outcome, refused, after}
+use Rattle.word.specs.declared.Class.{Class}
+use Rattle.word.specs.Class.{bytesOf, windowOf}
+use Rattle.relr.specs.Words.{Where, nowhere, from, marked, fit, read}
+use Rattle.relr.specs.Table.{spaceOf}
+use Rattle.relr.specs.declared.place.Place.{Place}
+use Rattle.relr.specs.declared.place.Place.the-variants.{Nowhere, At, Beyond}
+use Rattle.relr.specs.declared.place.Opened.{Opened}
+use Rattle.relr.specs.declared.place.Opened.the-variants.{Marks, Refused}
+
+-- a place at an offset is one of the space
+abbrev pub Placed : Class → Place → Type 0
+Placed k Nowhere = Unit {0}
+Placed k (At u) = u + bytesOf k ≤ spaceOf k
+Placed k Beyond = Unit {0}
+
+-- a place stands for *where*: beyond the last word it does not say how far
+abbrev pub Stands : Class → Where → Place → Type 0
+Stands k w Nowhere = w ≡ nowhere
+Stands k w (At u) = (w ≡ from u) × (u + bytesOf k ≤ spaceOf k)
+Stands k w Beyond = (v : ℕ) × (w ≡ from v) × (spaceOf k < v + bytesOf k)
+
+-- the offsets of the words t, of which the first stands at byte i
+abbrev pub readOf : Class → List ℕ → ℕ → Where → Outcome (List ℕ)
+readOf k t i w = read (bytesOf k) (windowOf k) (spaceOf k) t i w
+
+-- the locations that a word marks from an offset on
+abbrev pub marksOf : Class → ℕ → ℕ → List ℕ
+marksOf k bits start = marked (bytesOf k) (windowOf k) bits start
+
+-- the word x at *where* w marks locations, all of which must fit the space, and the next bitmap's first location is `next`
+pub record Marked (k : Class) (w : Where) (x start bits : ℕ) (next : Place) : Type 0 where
+  pub in-space : start + bytesOf k ≤ spaceOf k
+  pub in-window : bits < 2 ^ windowOf k
+  pub v : ℕ
+  pub stands : Stands k (from v) next
+  pub is : (t : List ℕ) (i : ℕ)
+      → readOf k (x ∷ t) i w
+      ≡ cond (fit (bytesOf k) (spaceOf k) (marksOf k bits start)) (after (marksOf k bits start) (readOf k t (i + bytesOf k) (from v))) (refused Space i)
+
+-- what the word x is at *where* w
+abbrev pub Opens : Class → Where → ℕ → Opened → Type 0
+Opens k w x (Marks start bits next) = Marked k w x start bits next
+Opens k w x (Refused why) = (t : List ℕ) (i : ℕ) → readOf k (x ∷ t) i w ≡ refused why i
+
+-- the same at a place
+abbrev pub OpensAt : Class → Place → ℕ → Opened → Type 0
+OpensAt k p x r = (w : Where) → Stands k w p → Opens k w x r

@@ -1,0 +1,4 @@
+pub mod Words
+pub mod Table
+pub mod Contract
+pub mod Inner

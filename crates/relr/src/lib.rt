@@ -1,0 +1,2 @@
+// RELR tables: read, written and applied.
+mod place;

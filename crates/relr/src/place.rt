@@ -1,0 +1,92 @@
+// Document 01's *where*, and what a word of a table stands for there.
+ghost use mathlib.Core.Path.{_≡_};
+ghost use Prim.Native.Nat.{ℕ, _+_, _*_, _/_, _%_, _^_, _≤_, _<_};
+ghost use Rattle.word.specs.Class.{bytesOf, windowOf};
+ghost use Rattle.relr.specs.Table.{spaceOf};
+ghost use Rattle.relr.specs.Words.{Where, from};
+ghost use Rattle.relr.specs.Inner.{Placed, Stands, Opens, OpensAt};
+use answer::Refusal;
+use word::Class;
+
+// Where the next bitmap's first location is: nowhere yet, at an offset of the space, or beyond all of them.
+pub enum Place {
+    Nowhere,
+    At(u64),
+    Beyond,
+}
+
+// What a word stands for: the locations that the bits mark from an offset on, a word apart, and where the next bitmap's first is.
+pub enum Opened {
+    Marks(u64, u64, Place),
+    Refused(Refusal),
+}
+
+// The last offset of the space at which a whole word lies.
+pub fn last(k: Class) -> u64
+    ensures { λ r. ⌜ r + bytesOf k ≡ spaceOf k ⌝ }
+{
+    match k {
+        Class::Four => 4294967292,
+        Class::Eight => 18446744073709551608,
+    }
+}
+
+// The place d bytes past u.
+pub fn past(k: Class, u: u64, d: u64) -> Place
+    requires { ⌜ u + bytesOf k ≤ spaceOf k ⌝ }
+    ensures { λ r. ⌜ Stands k (from (u + d)) r ⌝ }
+{
+    if last(k) - u < d {
+        return Place::Beyond;
+    }
+    Place::At(u + d)
+}
+
+// The bytes from one bitmap's first location to the next one's.
+pub fn stride(k: Class) -> u64
+    ensures { λ r. ⌜ r ≡ windowOf k * bytesOf k ⌝ }
+{
+    match k {
+        Class::Four => 124,
+        Class::Eight => 504,
+    }
+}
+
+// An even word is an offset.
+fn open_address(k: Class, x: u64) -> Opened
+    requires { ⌜ x % 2 ≡ 0 ⌝ }
+    ensures { λ r. ⌜ ((w : Where) → Opens k w x r) ⌝ }
+{
+    if last(k) < x {
+        return Opened::Refused(Refusal::Space);
+    }
+    Opened::Marks(x, 1, past(k, x, k.bytes() as u64))
+}
+
+// An odd word is a bitmap of the bits above its lowest.
+fn open_bitmap(k: Class, place: Place, bits: u64) -> Opened
+    requires { ⌜ (bits < 2 ^ windowOf k) × Placed k place ⌝ }
+    ensures { λ r. ⌜ ((x : ℕ) → x % 2 ≡ 1 → x / 2 ≡ bits → OpensAt k place x r) ⌝ }
+{
+    match place {
+        Place::Nowhere => Opened::Refused(Refusal::Order),
+        Place::At(u) => Opened::Marks(u, bits, past(k, u, stride(k))),
+        Place::Beyond => {
+            if bits != 0 {
+                return Opened::Refused(Refusal::Space);
+            }
+            Opened::Marks(0, 0, Place::Beyond)
+        }
+    }
+}
+
+// What the word x stands for at a place.
+pub fn open(k: Class, place: Place, x: u64) -> Opened
+    requires { ⌜ (x < spaceOf k) × Placed k place ⌝ }
+    ensures { λ r. ⌜ OpensAt k place x r ⌝ }
+{
+    if x % 2 == 0 {
+        return open_address(k, x);
+    }
+    open_bitmap(k, place, x / 2)
+}
