@@ -5,3 +5,6 @@ pub mod RoundTrip
 pub mod Minimal
 pub mod Steps
 pub mod Opening
+pub mod Leading
+pub mod Passed
+pub mod Scan

@@ -4,10 +4,16 @@ use mathlib.Core.Bool.{Bool, true, cond}
 use mathlib.Core.List.{List, [], _∷_, _++_}
 use mathlib.Core.Path.{_≡_}
 use Prim.Native.Nat.{ℕ, _+_, _^_, _%_, _/_, _≤_, _<_}
-use Rattle.answer.specs.declared.Refusal.the-variants.{Space}
-use Rattle.answer.specs.Outcome.{Outcome, refused, after}
+use lib.Dec.{ltb, eqb}
+use lib.ListN.{length}
+use Rattle.answer.specs.declared.Refusal.the-variants.{Space, Outside}
+use Rattle.answer.specs.declared.Found.{Found}
+use Rattle.answer.specs.declared.Found.the-variants.{Count}
+use Rattle.answer.specs.declared.Found.the-variants as found
+use Rattle.answer.specs.Outcome.{Outcome, refused, after, inputLimit}
 use Rattle.word.specs.declared.Class.{Class}
 use Rattle.word.specs.Class.{bytesOf, windowOf}
+use Rattle.word.specs.Word.{wordsOf}
 use Rattle.relr.specs.Words.{Where, nowhere, from, marked, fit, read}
 use Rattle.relr.specs.Table.{spaceOf}
 use Rattle.relr.specs.declared.place.Place.{Place}
@@ -53,3 +59,24 @@ Opens k w x (Refused why) = (t : List ℕ) (i : ℕ) → readOf k (x ∷ t) i w 
 -- the same at a place
 abbrev pub OpensAt : Class → Place → ℕ → Opened → Type 0
 OpensAt k p x r = (w : Where) → Stands k w p → Opens k w x r
+
+-- a table of whole words that is not too long
+pub record Whole (k : Class) (s : List ℕ) : Type 0 where
+  pub words : length s % bytesOf k ≡ 0
+  pub few : length s ≤ inputLimit
+
+-- what the words of a table say
+unfoldable pub wordsRead : Class → List ℕ → Outcome (List ℕ)
+wordsRead k s = readOf k (wordsOf (bytesOf k) s) 0 nowhere
+
+-- whether an offset is below a bound
+abbrev pub below : ℕ → ℕ → Bool
+below bound x = ltb x bound
+
+-- of `count` offsets the first `inside` are below the bound, and then comes x
+abbrev pub grow : ℕ → ℕ → ℕ → ℕ → ℕ
+grow inside count x bound = cond (eqb inside count) (cond (ltb x bound) (inside + 1) inside) inside
+
+-- all of `count` offsets are below the bound, or the first `inside` only
+abbrev pub surveyed : ℕ → ℕ → Found
+surveyed count inside = cond (eqb inside count) (Count count) (found.Refused Outside inside)

@@ -1,2 +1,3 @@
 // RELR tables: read, written and applied.
 mod place;
+mod walk;

@@ -1,6 +1,6 @@
 -- The needs of the functions, stated as the code asks them.
 -- Assumes nothing.
-use Prim.Native.Nat.{ℕ, _+_, _*_, _/_, _%_, _≤_, _<_}
+use Prim.Native.Nat.{ℕ, _+_, _*_, _/_, _%_, _^_, _≤_, _<_}
 use mathlib.Core.Path.{_≡_, refl, sym, ap, _∙_}
 use mathlib.Core.List.{List}
 use native.Mathlib.Omega.{arith}
@@ -100,4 +100,12 @@ module _ (k : Class) (n : ℕ) (e : bytesOf k ≡ n) (s : List ℕ) (at : ℕ) w
   pub store-is : {l : List ℕ} (w : ℕ) → l ≡ withWord n s at w → l ≡ withWord (bytesOf k) s at w
   store-is w h = rw e h
 
-pub ruleset words = (load-four, load-eight, store-four, store-eight, is-four, is-eight, room-is, load-is, store-is, needs)
+-- and a word is below 2 to its bits
+module _ (k : Class) {r : ℕ} where
+  pub four-lt : k ≡ Four → r < 4294967296 → r < 2 ^ bitsOf k
+  four-lt e h = rw e h
+
+  pub eight-lt : k ≡ Eight → r < 2 ^ 64 → r < 2 ^ bitsOf k
+  eight-lt e h = rw e h
+
+pub ruleset words = (load-four, load-eight, store-four, store-eight, is-four, is-eight, room-is, load-is, store-is, four-lt, eight-lt, needs)

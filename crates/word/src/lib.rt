@@ -1,6 +1,6 @@
 // The class of a table, and its words in bytes, low byte first.
 ghost use mathlib.Core.Path.{_≡_};
-ghost use Prim.Native.Nat.{ℕ, _+_, _≤_, _<_};
+ghost use Prim.Native.Nat.{ℕ, _+_, _^_, _≤_, _<_};
 ghost use lib.ListN.{length};
 ghost use Rattle.word.specs.Class.{bytesOf, bitsOf, windowOf, classOf};
 ghost use Rattle.word.specs.Word.{wordAt, withWord};
@@ -92,7 +92,7 @@ fn load8(s: &[u8], at: usize) -> u64
 // The word at a place.
 pub fn load(class: Class, s: &[u8], at: usize) -> u64
     requires { ⌜ at + bytesOf class ≤ length (now s) ⌝ }
-    ensures { λ r. ⌜ r ≡ wordAt (bytesOf class) (now (s .entry)) at ⌝ }
+    ensures { λ r. ⌜ (r ≡ wordAt (bytesOf class) (now (s .entry)) at) × (r < 2 ^ bitsOf class) ⌝ }
 {
     match class {
         Class::Four => load4(s, at),

@@ -1,0 +1,79 @@
+// The first pass over a table: how many offsets it stands for, or the first fault along it.
+ghost use mathlib.Core.Path.{_≡_};
+ghost use Prim.Native.Nat.{_^_, _≤_, _<_};
+ghost use lib.ListN.{length};
+ghost use Rattle.answer.specs.Outcome.{foundOf, inputLimit};
+ghost use Rattle.word.specs.Class.{bytesOf};
+ghost use Rattle.relr.specs.Table.{within};
+ghost use Rattle.relr.specs.Inner.{Whole, below, wordsRead, grow, surveyed};
+use crate::place;
+use crate::place::Opened;
+use crate::place::Place;
+use answer::Found;
+use answer::Refusal;
+use word::Class;
+
+// How many offsets from the front on are below a bound, where x comes after `count` others, of which `inside` are.
+fn grown(inside: u64, count: u64, x: u64, bound: u64) -> u64
+    requires { ⌜ (inside ≤ count) × (count < 2 ^ 63) ⌝ }
+    ensures { λ r. ⌜ r ≡ grow inside count x bound ⌝ }
+{
+    if inside < count {
+        return inside;
+    }
+    if x < bound {
+        return inside + 1;
+    }
+    inside
+}
+
+// All offsets are below the bound, or the first that is not.
+fn survey(count: u64, inside: u64) -> Found
+    ensures { λ r. ⌜ r ≡ surveyed count inside ⌝ }
+{
+    if inside == count {
+        return Found::Count(count);
+    }
+    Found::Refused(Refusal::Outside, inside)
+}
+
+// The walk over words and set bits, left at the first fault. Of a table that has none, each offset is held against a bound.
+pub fn scan(k: Class, s: &[u8], bound: u64) -> Found
+    requires { ⌜ Whole k (now s) ⌝ }
+    ensures { λ r. ⌜ r ≡ foundOf (within (below bound) (wordsRead k (now (s .entry)))) ⌝ }
+{
+    let c = k.bytes() as usize;
+    let mut at: usize = 0;
+    let mut place = Place::Nowhere;
+    let mut count: u64 = 0;
+    let mut inside: u64 = 0;
+    'walk: loop {
+        if s.len() <= at {
+            break 'walk survey(count, inside);
+        }
+        let opened = place::open(k, place, word::load(k, s, at));
+        match opened {
+            Opened::Refused(why) => {
+                break 'walk Found::Refused(why, at as u64);
+            }
+            Opened::Marks(start, set, next) => {
+                let reach = place::last(k) - start;
+                let mut bits = set;
+                let mut d: u64 = 0;
+                while bits != 0 {
+                    if bits % 2 == 1 {
+                        if reach < d {
+                            break 'walk Found::Refused(Refusal::Space, at as u64);
+                        }
+                        inside = grown(inside, count, start + d, bound);
+                        count += 1;
+                    }
+                    bits = bits / 2;
+                    d += c as u64;
+                }
+                place = next;
+                at += c;
+            }
+        }
+    }
+}
