@@ -9,7 +9,7 @@ use Prim.Native.Nat.{ℕ, zero, suc, _+_, _-_, _*_, _/_, _%_, _^_, _≤_, _<_}
 use native.Mathlib.Nat.{mul-le-mul-right}
 use native.Mathlib.Numerals.{add-one}
 use native.Mathlib.Omega.{arith}
-use lib.ListN.{length, take, drop, set, drop-of-length-le, length-append}
+use lib.ListN.{length, take, drop, drop-of-length-le, length-append}
 use lib.Seq.{sets, sets-eq, length-sets, drop-at, length-take-le, drop-append-seam}
 use lib.Dec.{leb, ltb, lit<, leb→le, le→leb, ltb→lt, lt→ltb}
 use lib.IntN.{ℤ, pos, negsuc, negℤ}
@@ -17,6 +17,7 @@ use lib.Signed.{mag, _≤ℤ_, _<ℤ_}
 use lib.Pow.{pow-pos}
 use borrow.Author.Tests.{ltb-true, ltb-false, lt-ltb}
 use Rattle.leb128.specs.Number.{Raw, cut, long, got, more, raw, count, unsignedOf, readUnsigned, signed, signedOf, readSigned, short, shortUnsigned, isNeg, shortSigned, Written}
+use Rattle.answer.specs.Outcome.Laws.{sets-append}
 use Rattle.answer.specs.Bytes.{Bytes, bytes-drop}
 use Rattle.answer.specs.declared.Refusal.the-variants.{Missing, Width}
 use Rattle.leb128.specs.declared.Unsigned.{Unsigned}
@@ -102,10 +103,6 @@ written-signed B z old new at next b h l w =
     rw (w .list, w .place) (read-short-signed B z _ at _ b h (back-at old (shortSigned z) at l))
 
 -- one write after another is one write of both
-pub sets-append : (l : List ℕ) (i : ℕ) (a b : List ℕ) → sets (sets l i a) (i + length a) b ≡ sets l i (a ++ b)
-sets-append l i [] b = ap (λ (n : ℕ). sets l n b) (omega arith)
-sets-append l i (v ∷ a) b = ap (λ (n : ℕ). sets (sets (set l i v) (suc i) a) n b) (omega arith) ∙ sets-append (set l i v) (suc i) a b
-
 pub written-then : {old mid new a b : List ℕ} {at next past : ℕ} → Written old mid at next a → Written mid new next past b → Written old new at past (a ++ b)
 written-then {old} {mid} {new} {a} {b} {at} v w =
     record {

@@ -8,3 +8,6 @@ pub mod Opening
 pub mod Leading
 pub mod Passed
 pub mod Scan
+pub mod Decoding
+pub mod Fill
+pub mod ReadNeeds

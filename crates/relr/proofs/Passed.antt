@@ -12,12 +12,13 @@ use lib.Dec.{leb}
 use mir.Syntax.{w64}
 use mir.Val.{Fits}
 use borrow.Author.Needs.{needs}
+use borrow.Author.Tests.{leb-true as leb-le}
 use Rattle.answer.specs.declared.Refusal.{Refusal}
 use Rattle.answer.specs.declared.Refusal.the-variants.{Space}
 use Rattle.answer.specs.declared.Found.{Found}
 use Rattle.answer.specs.declared.Found.the-variants as found
 use Rattle.answer.specs.Outcome.{Outcome, accepted, refused, after, foundOf, inputLimit}
-use Rattle.answer.specs.Outcome.Laws.{after-none, after-after, after-refused, after-end, found-refused}
+use Rattle.answer.specs.Outcome.Laws.{accepted-refused, after-none, after-after, after-refused, after-end, after-long, found-refused}
 use Rattle.word.specs.declared.Class.{Class}
 use Rattle.word.specs.Class.{bytesOf, windowOf}
 use Rattle.word.specs.Class.Laws.{bytes-least, bytes-most}
@@ -51,6 +52,19 @@ fit-one c top x h = rw (leb-true (x + c) top h)
 pub fit-not : (c top x : ℕ) (l : List ℕ) → top < x + c → fit c top (x ∷ l) ≡ false
 unfolding fit
 fit-not c top x l h = rw (leb-false (x + c) top h)
+
+pub fit-at : (c top x : ℕ) (p q : List ℕ) → fit c top (p ++ x ∷ q) ≡ true → x + c ≤ top
+unfolding fit
+fit-at c top x [] q h = go (leb (x + c) top) refl h
+  where
+    go : (b : Bool) → leb (x + c) top ≡ b → (b && fit c top q) ≡ true → x + c ≤ top
+    go true e f = leb-le (x + c) top e
+    go false e f = let z : _≡_ {A = ℕ} 0 1 = cc in absurd (omega arith)
+fit-at c top x (y ∷ p) q h = go (leb (y + c) top) (fit-at c top x p q) h
+  where
+    go : (b : Bool) → (fit c top (p ++ x ∷ q) ≡ true → x + c ≤ top) → (b && fit c top (p ++ x ∷ q)) ≡ true → x + c ≤ top
+    go true ih f = ih f
+    go false ih f = let z : _≡_ {A = ℕ} 0 1 = cc in absurd (omega arith)
 
 -- ---- between two words
 pub placed : (k : Class) (w : Where) (p : Place) → Stands k w p → Placed k p
@@ -154,6 +168,17 @@ word-done {k} {list = list} {start = start} {set = set} h f =
       so = h .so ∙ rw f (after-after list (marksOf k set start) _);
     }
 
+-- a word of an accepted table: its locations fit, and are among the table's
+pub word-good : {k : Class} {s list l : List ℕ} {at start set : ℕ} {next : Place} → Word k s list at start set next → wordsRead k s ≡ accepted l
+    → (fit (bytesOf k) (spaceOf k) (marksOf k set start) ≡ true) × (length (list ++ marksOf k set start) ≤ length l)
+word-good {k} {s} {list} {l} {at} {start} {set} h e = go (fit (bytesOf k) (spaceOf k) (marksOf k set start)) (sym (h .so) ∙ e)
+  where
+    go : (b : Bool)
+        → after list (cond b (after (marksOf k set start) (readOf k (firstWords (bytesOf k) (h .left) (drop (at + bytesOf k) s)) (at + bytesOf k) (from (h .v)))) (refused Space at)) ≡ accepted l
+        → (b ≡ true) × (length (list ++ marksOf k set start) ≤ length l)
+    go true f = (refl, after-long (list ++ marksOf k set start) _ (sym (after-after list (marksOf k set start) _) ∙ f))
+    go false f = absurd (accepted-refused f (after-refused list Space at))
+
 -- ---- inside a word: the locations passed, and the bits left
 pub record Marking (k : Class) (start set j bits d : ℕ) (p : List ℕ) : Type 0 where
   pub within : j ≤ windowOf k
@@ -200,7 +225,7 @@ module _ {k : Class} {start set j bits d : ℕ} {p : List ℕ} (m : Marking k st
           dist = grown-dist;
           small = half-small;
           marks = m .marks ∙ rw (places, marked-set (bytesOf k) (windowOf k - (j + 1)) bits (start + d) o, next-place)
-          (sym (append-assoc p ((start + d) ∷ []) _));
+              (sym (append-assoc p ((start + d) ∷ []) _));
         }
 
     pub marking-clear : bits % 2 ≡ 0 → Marking k start set (j + 1) (bits / 2) (d + c) p
@@ -214,9 +239,10 @@ module _ {k : Class} {start set j bits d : ℕ} {p : List ℕ} (m : Marking k st
 
   -- the location of the lowest bit left, where that is set
   pub marking-head : bits % 2 ≡ 1 → (q : List ℕ) × (marksOf k set start ≡ p ++ (start + d) ∷ q)
-  marking-head o =
-      (marked (bytesOf k) (windowOf k - (j + 1)) (bits / 2) (start + d + bytesOf k),
-      m .marks ∙ rw (places, marked-set (bytesOf k) (windowOf k - (j + 1)) bits (start + d) o))
+  marking-head o = (
+    marked (bytesOf k) (windowOf k - (j + 1)) (bits / 2) (start + d + bytesOf k),
+    m .marks ∙ rw (places, marked-set (bytesOf k) (windowOf k - (j + 1)) bits (start + d) o),
+  )
 
   -- the distance stays small
   pub marking-dist : d < 504

@@ -28,6 +28,11 @@ pub record Reads (class : ℕ) (s old : List ℕ) (r : Answer) (new : List ℕ) 
   pub answer : r ≡ answerIn (length old) (decoding class s)
   pub column : new ≡ filled itself (decoding class s) old
 
+-- the same for a class
+pub record ReadsIn (k : Class) (s old : List ℕ) (r : Answer) (new : List ℕ) : Type 0 where
+  pub answer : r ≡ answerIn (length old) (decode k s)
+  pub column : new ≡ filled itself (decode k s) old
+
 -- ---- write
 
 -- the bytes that are written for the list l in the class that a number names

@@ -5,12 +5,13 @@ use mathlib.Core.List.{List, [], _∷_, _++_}
 use mathlib.Core.Path.{_≡_}
 use Prim.Native.Nat.{ℕ, _+_, _^_, _%_, _/_, _≤_, _<_}
 use lib.Dec.{ltb, eqb}
-use lib.ListN.{length}
+use lib.ListN.{length, drop}
+use lib.Seq.{sets}
 use Rattle.answer.specs.declared.Refusal.the-variants.{Space, Outside}
 use Rattle.answer.specs.declared.Found.{Found}
 use Rattle.answer.specs.declared.Found.the-variants.{Count}
 use Rattle.answer.specs.declared.Found.the-variants as found
-use Rattle.answer.specs.Outcome.{Outcome, refused, after, inputLimit}
+use Rattle.answer.specs.Outcome.{Outcome, accepted, refused, after, inputLimit}
 use Rattle.word.specs.declared.Class.{Class}
 use Rattle.word.specs.Class.{bytesOf, windowOf}
 use Rattle.word.specs.Word.{wordsOf}
@@ -80,3 +81,31 @@ grow inside count x bound = cond (eqb inside count) (cond (ltb x bound) (inside 
 -- all of `count` offsets are below the bound, or the first `inside` only
 abbrev pub surveyed : ℕ → ℕ → Found
 surveyed count inside = cond (eqb inside count) (Count count) (found.Refused Outside inside)
+
+-- ---- the second passes
+
+-- room in a column for the locations that bits mark, each of which fits the space
+pub record Markable (k : Class) (column : List ℕ) (at start set : ℕ) : Type 0 where
+  pub in-window : set < 2 ^ windowOf k
+  pub fits : fit (bytesOf k) (spaceOf k) (marksOf k set start) ≡ true
+  pub room : at + length (marksOf k set start) ≤ length column
+
+-- the elements l stand at a place of what was there before, and r is the place after them
+pub record Put (old : List ℕ) (at : ℕ) (l : List ℕ) (r : ℕ) (new : List ℕ) : Type 0 where
+  pub next : r ≡ at + length l
+  pub list : new ≡ sets old at l
+
+-- a table that the first pass accepted
+pub record Good (k : Class) (s : List ℕ) : Type 0 where
+  pub whole : Whole k s
+  pub list : List ℕ
+  pub is : wordsRead k s ≡ accepted list
+
+-- and a column with room for its offsets
+pub record Fillable (k : Class) (s column : List ℕ) : Type 0 where
+  pub good : Good k s
+  pub room : length (good .list) ≤ length column
+
+-- a column that holds the offsets of a table, and behind them what it held
+abbrev pub Filled : Class → List ℕ → List ℕ → List ℕ → Type 0
+Filled k s old new = (l : List ℕ) → wordsRead k s ≡ accepted l → new ≡ l ++ drop (length l) old

@@ -1,3 +1,21 @@
 // RELR tables: read, written and applied.
+ghost use Rattle.relr.specs.Contract.{Reads};
+use answer::Answer;
+use answer::Refusal;
+use word::Class;
+use word::Named;
+
 mod place;
+mod reader;
 mod walk;
+
+// Reads the offsets of a table into a column.
+pub fn read(class: u32, table: &[u8], offsets: &mut [u64]) -> Answer
+    ensures { λ r. ⌜ Reads class (now (table .entry)) (now (offsets .entry)) r (now (offsets .exit)) ⌝ }
+{
+    let named = Class::named(class);
+    let Named::Is(k) = named else {
+        return answer::refuse(Refusal::Class, 0);
+    };
+    reader::read_class(k, table, offsets)
+}

@@ -165,6 +165,11 @@ module _ {A : Type 0} where
   pub filled-self : {o : Outcome (List A)} (old : List A) {l : List A} → o ≡ accepted l → length l ≤ length old → filled (λ (a : A). a) o old ≡ l ++ drop (length l) old
   filled-self old {l} e h = filled-fits (λ (a : A). a) old e h ∙ ap (λ (m : List A). m ++ drop (length l) old) (map-id l)
 
+  -- several stores after several others
+  pub sets-append : (l : List A) (i : ℕ) (a b : List A) → sets (sets l i a) (i + length a) b ≡ sets l i (a ++ b)
+  sets-append l i [] b = ap (λ (n : ℕ). sets l n b) (omega arith)
+  sets-append l i (v ∷ a) b = ap (λ (n : ℕ). sets (sets (set l i v) (suc i) a) n b) (omega arith) ∙ sets-append (set l i v) (suc i) a b
+
   buffer-at : (xs old ys : List A) → length xs + length ys ≤ length old → sets (xs ++ drop (length xs) old) (length xs) ys ≡ (xs ++ ys) ++ drop (length xs + length ys) old
   buffer-at xs old ys h =
       sets-eq ys (xs ++ drop (length xs) old) (length xs) (simp (length-append, length-drop) (omega arith)) ∙

@@ -1,0 +1,161 @@
+-- The needs of the second pass of a read, stated as the code asks them.
+-- Assumes nothing.
+use mathlib.Core.Bool.{Bool, true, false}
+use mathlib.Core.List.{List, [], _∷_, _++_}
+use mathlib.Core.Path.{_≡_, refl, sym, ap, subst, _∙_}
+use Prim.Native.Nat.{ℕ, _+_, _-_, _*_, _/_, _%_, _^_, _≤_, _<_}
+use native.Mathlib.Omega.{arith}
+use lib.ListN.{length, drop, length-append}
+use lib.ListN.{set as stored}
+use lib.Pow.{pow-mono}
+use lib.Seq.{sets, length-sets}
+use mir.Syntax.{w64}
+use mir.Val.{Fits}
+use borrow.Author.Needs.{needs, scaled-fits}
+use Rattle.answer.specs.declared.Refusal.{Refusal}
+use Rattle.answer.specs.declared.Answer.{Answer}
+use Rattle.answer.specs.declared.Found.{Found}
+use Rattle.answer.specs.declared.Found.the-variants.{Count}
+use Rattle.answer.specs.declared.Found.the-variants as found
+use Rattle.answer.specs.Outcome.{Outcome, accepted, refused, foundOf, success, refusal, noRoom, answerIn, filled}
+use Rattle.answer.specs.Outcome.Laws.{accepted-refused, after-long, Counted, counted, not-found, sets-append, buffer-more, buffer-long, filled-self, filled-long, filled-refused, answer-fits, answer-long, answer-refused}
+use Rattle.word.specs.declared.Class.{Class}
+use Rattle.word.specs.Class.{bytesOf, bitsOf, windowOf}
+use Rattle.word.specs.Class.Laws.{bytes-least, bytes-most}
+use Rattle.word.specs.Word.{wordAt}
+use Rattle.relr.specs.Words.{fit}
+use Rattle.relr.specs.Table.{spaceOf, decode, within}
+use Rattle.relr.specs.Contract.{itself, ReadsIn}
+use Rattle.relr.specs.declared.place.Place.{Place}
+use Rattle.relr.specs.declared.place.Place.the-variants.{Nowhere}
+use Rattle.relr.specs.declared.place.Opened.{Opened}
+use Rattle.relr.specs.declared.place.Opened.the-variants.{Marks, Refused}
+use Rattle.relr.specs.Inner.{Placed, marksOf, OpensAt, wordsRead, below, Markable, Put, Good, Fillable, Filled}
+use Rattle.relr.proofs.Passed.{fit-at, Standing, standing-begin, standing-placed, standing-load, standing-end, Word, word-refused, word-marks, word-done, word-good, Marking, marking-begin, marking-less, marking-head, marking-set, marking-clear, marking-dist, marking-end}
+use Rattle.relr.proofs.Decoding.{decode-good, within-space}
+use Rattle.relr.proofs.Scan.{step-fits, step-less}
+
+-- the space is that of the widest word at the most
+pub space-most : (k : Class) → spaceOf k ≤ 2 ^ 64
+space-most k = let h : bitsOf k ≤ 64 = omega (arith, bytes-most k) in pow-mono h
+
+-- the location of a set bit, which fits where all of the word's do
+module _ {k : Class} {start set j bits d : ℕ} {p : List ℕ} (m : Marking k start set j bits d p) (nz : bits ≡ 0 → ⊥) where
+  pub mark-dist : (c : ℕ) → c ≡ bytesOf k → Fits w64 (d + c)
+  mark-dist c ce = record { fits = omega (arith, marking-dist m nz, bytes-most k) }
+
+  module _ (f : fit (bytesOf k) (spaceOf k) (marksOf k set start) ≡ true) (o : bits % 2 ≡ 1) where
+    pub mark-in : start + d + bytesOf k ≤ spaceOf k
+    mark-in =
+        let (q, e) = marking-head m nz o in
+        fit-at (bytesOf k) (spaceOf k) (start + d) p q (sym (ap (fit (bytesOf k) (spaceOf k)) e) ∙ f)
+
+    pub mark-fits : Fits w64 (start + d)
+    mark-fits = record { fits = omega (arith, mark-in, space-most k, bytes-least k) }
+
+    pub mark-more : length p + 1 ≤ length (marksOf k set start)
+    mark-more = let (q, e) = marking-head m nz o in omega (arith, ap length e, length-append p ((start + d) ∷ q))
+
+-- ---- a word's locations
+pub record Filling (k : Class) (old : List ℕ) (at start set : ℕ) (column : List ℕ) (bits d i : ℕ) : Type 0 where
+  pub p : List ℕ
+  pub j : ℕ
+  pub marking : Marking k start set j bits d p
+  pub list : column ≡ sets old at p
+  pub next : i ≡ at + length p
+
+module _ {k : Class} {old : List ℕ} {at start set : ℕ} (m : Markable k old at start set) where
+  pub filling-begin : Filling k old at start set old set 0 at
+  filling-begin = record { p = []; j = 0; marking = marking-begin k start set (m .in-window); list = refl; next = omega arith }
+
+  module _ {column : List ℕ} {bits d i : ℕ} (g : Filling k old at start set column bits d i) where
+    pub filling-long : length column ≡ length old
+    filling-long = ap length (g .list) ∙ length-sets old at (g .p)
+
+    module _ (nz : bits ≡ 0 → ⊥) where
+      pub filling-dist : (c : ℕ) → c ≡ bytesOf k → Fits w64 (d + c)
+      filling-dist c ce = mark-dist (g .marking) nz c ce
+
+      pub filling-clear : (c : ℕ) → c ≡ bytesOf k → (bits % 2 ≡ 1 → ⊥) → Filling k old at start set column (bits / 2) (d + c) i
+      filling-clear c ce o = record { p = g .p; j = g .j + 1; marking = marking-clear (g .marking) nz ce (omega arith); list = g .list; next = g .next }
+
+      module _ (o : bits % 2 ≡ 1) where
+        pub filling-fits : Fits w64 (start + d)
+        filling-fits = mark-fits (g .marking) nz (m .fits) o
+
+        pub filling-in : i < length column
+        filling-in = omega (arith, filling-long, g .next, mark-more (g .marking) nz (m .fits) o, m .room)
+
+        pub filling-scaled : length old * 8 < 2 ^ 63 → Fits w64 (i * 8)
+        filling-scaled q = scaled-fits i (length old) 8 (omega (arith, filling-in, filling-long)) q
+
+        pub filling-next : length old < 2 ^ 64 → Fits w64 (i + 1)
+        filling-next q = record { fits = omega (arith, filling-in, filling-long) }
+
+        pub filling-set : (c : ℕ) → c ≡ bytesOf k → Filling k old at start set (stored column i (start + d)) (bits / 2) (d + c) (i + 1)
+        filling-set c ce =
+            record {
+              p = g .p ++ (start + d) ∷ [];
+              j = g .j + 1;
+              marking = marking-set (g .marking) nz ce o;
+              list = rw (g .list, g .next) (sets-append old at (g .p) ((start + d) ∷ []));
+              next = omega (arith, g .next, length-append (g .p) ((start + d) ∷ []));
+            }
+
+    pub filling-end : bits ≡ 0 → Put old at (marksOf k set start) i column
+    filling-end z = let e = marking-end (g .marking) z in record { next = rw e (g .next); list = rw e (g .list) }
+
+pub ruleset markings = (filling-begin, filling-long, filling-dist, filling-clear, filling-fits, filling-in, filling-scaled, filling-next, filling-set, filling-end, needs)
+
+-- ---- a table's words
+pub record Reading (k : Class) (s old : List ℕ) (at : ℕ) (p : Place) (column : List ℕ) (i : ℕ) : Type 0 where
+  pub list : List ℕ
+  pub standing : Standing k s list at p
+  pub next : i ≡ length list
+  pub held : column ≡ list ++ drop i old
+
+module _ {k : Class} {s old : List ℕ} (f : Fillable k s old) where
+  pub reading-begin : Reading k s old 0 Nowhere old 0
+  reading-begin = record { list = []; standing = standing-begin k s (f .good .whole); next = refl; held = refl }
+
+  module _ {at : ℕ} {p : Place} {column : List ℕ} {i : ℕ} (g : Reading k s old at p column i) where
+    pub reading-long : length column ≡ length old
+    reading-long = buffer-long (g .list) old i (g .held) (sym (g .next)) (omega (arith, within, f .room, g .next))
+      where
+        within : length (g .list) ≤ length (f .good .list)
+        within = after-long (g .list) _ (sym (g .standing .so) ∙ f .good .is)
+
+    pub reading-end : length s ≤ at → Filled k s old column
+    reading-end h l e = let q : l ≡ g .list = cc (standing-end (g .standing) h) in g .held ∙ rw (q, g .next)
+
+    module _ {x : ℕ} {r : Opened} (l : at < length s) (e : x ≡ wordAt (bytesOf k) s at) (o : OpensAt k p x r) where
+      pub reading-not : {why : Refusal} {new : List ℕ} → r ≡ Refused why → Filled k s old new
+      reading-not q = absurd (accepted-refused (f .good .is) (word-refused (g .standing) l e o q))
+
+      module _ {start set : ℕ} {next : Place} (q : r ≡ Marks start set next) where
+        word : Word k s (g .list) at start set next
+        word = word-marks (g .standing) l e o q
+
+        room : length (g .list) + length (marksOf k set start) ≤ length old
+        room = omega (arith, word-good word (f .good .is) .1, length-append (g .list) (marksOf k set start), f .room)
+
+        pub reading-marks : Markable k column i start set
+        reading-marks = record { in-window = word .in-window; fits = word-good word (f .good .is) .0; room = omega (arith, room, reading-long, g .next) }
+
+        pub reading-more : {new : List ℕ} {c n : ℕ} → c ≡ bytesOf k → Put column i (marksOf k set start) n new → Reading k s old (at + c) next new n
+        reading-more {new} {c} {n} ce u =
+            record {
+              list = g .list ++ marksOf k set start;
+              standing = subst (λ (b : ℕ). Standing k s (g .list ++ marksOf k set start) (at + b) next) (sym ce) (word-done word (word-good word (f .good .is) .0));
+              next = omega (arith, u .next, g .next, length-append (g .list) (marksOf k set start));
+              held = u .list ∙ buffer-more (g .list) old i (marksOf k set start) (g .held) (sym (g .next)) (omega (arith, room, g .next)) ∙ rw (u .next);
+            }
+
+module _ {k : Class} {s old : List ℕ} {at : ℕ} {p : Place} {column : List ℕ} {i : ℕ} (g : Reading k s old at p column i) where
+  pub reading-placed : Placed k p
+  reading-placed = standing-placed (g .standing)
+
+  pub reading-load : at < length s → at + bytesOf k ≤ length s
+  reading-load l = standing-load (g .standing) l
+
+pub ruleset readings = (reading-begin, reading-long, reading-end, reading-not, reading-marks, reading-more, reading-placed, reading-load, step-fits, step-less, needs)

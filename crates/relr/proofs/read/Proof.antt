@@ -1,0 +1,54 @@
+use Rattle.relr.proofs.ReadNeeds.{reads}
+use borrow.Author.Needs.{needs}
+use Rattle.relr.proofs.read.Statement.{statement}
+use Rattle.relr.proofs.read.Tie as tie
+use Rattle.relr.proofs.read.Reads as reads
+use Rattle.relr.proofs.read.Lts as lts
+use Rattle.answer.proofs.refuse.Reads as refuse-reads
+use Rattle.relr.proofs.reader.read_class.Reads as read-class-reads
+use Rattle.word.proofs.Class.named.Reads as named-reads
+
+-- src/lib.rt:15:9
+named-requires : tie.Need-named-requires
+named-requires c κs = search needs
+
+-- src/lib.rt:16:19
+enum-known-named : tie.Need-enum-known-named
+enum-known-named c = search needs
+
+-- src/lib.rt:17:31
+enum-told : tie.Need-enum-told
+enum-told c = search needs
+
+-- src/lib.rt:17:9
+refuse-requires : tie.Need-refuse-requires
+refuse-requires c κs = search needs
+
+-- src/lib.rt:17:9
+returns : tie.Need-returns
+returns c = search reads
+
+-- src/lib.rt:19:5
+read-class-requires : tie.Need-read-class-requires
+read-class-requires c κs = search needs
+
+-- src/lib.rt:12:1
+same-length : tie.Need-same-length
+same-length c = search needs
+
+-- src/lib.rt:12:1
+returns-2 : tie.Need-returns-2
+returns-2 c = search reads
+
+pub read-spec : {M : Type 1} → statement M
+read-spec =
+    tie.close
+    (tie.spec
+    named-requires
+    enum-known-named
+    enum-told
+    refuse-requires
+    returns
+    read-class-requires
+    same-length
+    returns-2)
