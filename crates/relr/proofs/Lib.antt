@@ -4,10 +4,11 @@ pub mod Greedy
 pub mod RoundTrip
 pub mod Minimal
 pub mod Steps
-pub mod Opening
+pub mod PlaceNeeds
 pub mod Leading
 pub mod Passed
-pub mod Scan
+pub mod ScanNeeds
 pub mod Decoding
-pub mod Fill
+pub mod FillNeeds
 pub mod ReadNeeds
+pub mod ApplyNeeds

@@ -18,7 +18,7 @@ use Rattle.answer.specs.declared.Refusal.the-variants.{Space}
 use Rattle.answer.specs.declared.Found.{Found}
 use Rattle.answer.specs.declared.Found.the-variants as found
 use Rattle.answer.specs.Outcome.{Outcome, accepted, refused, after, foundOf, inputLimit}
-use Rattle.answer.specs.Outcome.Laws.{accepted-refused, after-none, after-after, after-refused, after-end, after-long, found-refused}
+use Rattle.answer.specs.Outcome.Laws.{accepted-refused, after-none, after-after, after-refused, after-end, behind, found-refused}
 use Rattle.word.specs.declared.Class.{Class}
 use Rattle.word.specs.Class.{bytesOf, windowOf}
 use Rattle.word.specs.Class.Laws.{bytes-least, bytes-most}
@@ -65,6 +65,19 @@ fit-at c top x (y ∷ p) q h = go (leb (y + c) top) (fit-at c top x p q) h
     go : (b : Bool) → (fit c top (p ++ x ∷ q) ≡ true → x + c ≤ top) → (b && fit c top (p ++ x ∷ q)) ≡ true → x + c ≤ top
     go true ih f = ih f
     go false ih f = let z : _≡_ {A = ℕ} 0 1 = cc in absurd (omega arith)
+
+pub fit-left : (c top : ℕ) (p q : List ℕ) → fit c top (p ++ q) ≡ true → fit c top p ≡ true
+unfolding fit
+fit-left c top [] q h = refl
+fit-left c top (x ∷ p) q h = go (leb (x + c) top) (fit-left c top p q) h
+  where
+    go : (b : Bool) → (fit c top (p ++ q) ≡ true → fit c top p ≡ true) → (b && fit c top (p ++ q)) ≡ true → (b && fit c top p) ≡ true
+    go true ih e = ih e
+    go false ih e = let z : _≡_ {A = ℕ} 0 1 = cc in absurd (omega arith)
+
+-- a middle part of a list that fits
+pub fit-middle : (c top : ℕ) (p q r : List ℕ) → fit c top ((p ++ q) ++ r) ≡ true → fit c top q ≡ true
+fit-middle c top p q r h = let g = fit-left c top (p ++ q) r h in sym (fit-append c top p q (fit-left c top p q g)) ∙ g
 
 -- ---- between two words
 pub placed : (k : Class) (w : Where) (p : Place) → Stands k w p → Placed k p
@@ -168,16 +181,26 @@ word-done {k} {list = list} {start = start} {set = set} h f =
       so = h .so ∙ rw f (after-after list (marksOf k set start) _);
     }
 
--- a word of an accepted table: its locations fit, and are among the table's
-pub word-good : {k : Class} {s list l : List ℕ} {at start set : ℕ} {next : Place} → Word k s list at start set next → wordsRead k s ≡ accepted l
-    → (fit (bytesOf k) (spaceOf k) (marksOf k set start) ≡ true) × (length (list ++ marksOf k set start) ≤ length l)
-word-good {k} {s} {list} {l} {at} {start} {set} h e = go (fit (bytesOf k) (spaceOf k) (marksOf k set start)) (sym (h .so) ∙ e)
+-- a word of an accepted table: its locations fit, and come next in the table's list
+pub record Among (k : Class) (list l : List ℕ) (start set : ℕ) : Type 0 where
+  pub fits : fit (bytesOf k) (spaceOf k) (marksOf k set start) ≡ true
+  pub rest : List ℕ
+  pub whole : l ≡ (list ++ marksOf k set start) ++ rest
+
+pub word-good : {k : Class} {s list l : List ℕ} {at start set : ℕ} {next : Place} → Word k s list at start set next → wordsRead k s ≡ accepted l → Among k list l start set
+word-good {k} {s} {list} {l} {at} {start} {set} h e = go (fit (bytesOf k) (spaceOf k) (marksOf k set start)) refl (sym (h .so) ∙ e)
   where
-    go : (b : Bool)
+    go : (b : Bool) → fit (bytesOf k) (spaceOf k) (marksOf k set start) ≡ b
         → after list (cond b (after (marksOf k set start) (readOf k (firstWords (bytesOf k) (h .left) (drop (at + bytesOf k) s)) (at + bytesOf k) (from (h .v)))) (refused Space at)) ≡ accepted l
-        → (b ≡ true) × (length (list ++ marksOf k set start) ≤ length l)
-    go true f = (refl, after-long (list ++ marksOf k set start) _ (sym (after-after list (marksOf k set start) _) ∙ f))
-    go false f = absurd (accepted-refused f (after-refused list Space at))
+        → Among k list l start set
+    go true q f =
+        let z = behind (list ++ marksOf k set start) _ (sym (after-after list (marksOf k set start) _) ∙ f) in
+        record { fits = q; rest = z .rest; whole = z .whole }
+    go false q f = absurd (accepted-refused f (after-refused list Space at))
+
+pub among-long : {k : Class} {list l : List ℕ} {start set : ℕ} → Among k list l start set → length list + length (marksOf k set start) ≤ length l
+among-long {k} {list} {l} {start} {set} h =
+    omega (arith, ap length (h .whole), length-append (list ++ marksOf k set start) (h .rest), length-append list (marksOf k set start))
 
 -- ---- inside a word: the locations passed, and the bits left
 pub record Marking (k : Class) (start set j bits d : ℕ) (p : List ℕ) : Type 0 where

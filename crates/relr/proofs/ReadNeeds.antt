@@ -24,7 +24,7 @@ use Rattle.relr.specs.Table.{spaceOf, decode, within}
 use Rattle.relr.specs.Contract.{itself, decoding, Reads, ReadsIn}
 use Rattle.relr.specs.Inner.{below, Fillable, Filled}
 use Rattle.relr.proofs.Decoding.{decode-good, within-space}
-use Rattle.relr.proofs.Fill.{space-most}
+use Rattle.relr.proofs.FillNeeds.{space-most}
 
 pub past-last : (k : Class) (last : ℕ) → last + bytesOf k ≡ spaceOf k → Fits w64 (last + 1)
 past-last k last h = record { fits = omega (arith, space-most k, bytes-least k) }

@@ -79,3 +79,8 @@ imageAfter Unknown s base image = image
 pub record Applies (class : ℕ) (s : List ℕ) (base : ℕ) (old : List ℕ) (r : Answer) (new : List ℕ) : Type 0 where
   pub answer : r ≡ answerOf (applying class s base (length old))
   pub image : new ≡ imageAfter (classOf class) s base old
+
+-- the same for a class
+pub record AppliesIn (k : Class) (s : List ℕ) (base : ℕ) (old : List ℕ) (r : Answer) (new : List ℕ) : Type 0 where
+  pub answer : r ≡ answerOf (targets k s base (length old))
+  pub image : new ≡ changed (bytesOf k) base (targets k s base (length old)) old

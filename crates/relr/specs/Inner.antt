@@ -1,6 +1,6 @@
 -- What the inner functions promise.
 -- Assumes nothing.
-use mathlib.Core.Bool.{Bool, true, cond}
+use mathlib.Core.Bool.{Bool, true, false, cond}
 use mathlib.Core.List.{List, [], _∷_, _++_}
 use mathlib.Core.Path.{_≡_}
 use Prim.Native.Nat.{ℕ, _+_, _^_, _%_, _/_, _≤_, _<_}
@@ -13,10 +13,11 @@ use Rattle.answer.specs.declared.Found.the-variants.{Count}
 use Rattle.answer.specs.declared.Found.the-variants as found
 use Rattle.answer.specs.Outcome.{Outcome, accepted, refused, after, inputLimit}
 use Rattle.word.specs.declared.Class.{Class}
+use Rattle.word.specs.declared.Class.the-variants.{Four, Eight}
 use Rattle.word.specs.Class.{bytesOf, windowOf}
 use Rattle.word.specs.Word.{wordsOf}
 use Rattle.relr.specs.Words.{Where, nowhere, from, marked, fit, read}
-use Rattle.relr.specs.Table.{spaceOf}
+use Rattle.relr.specs.Table.{spaceOf, patched}
 use Rattle.relr.specs.declared.place.Place.{Place}
 use Rattle.relr.specs.declared.place.Place.the-variants.{Nowhere, At, Beyond}
 use Rattle.relr.specs.declared.place.Opened.{Opened}
@@ -109,3 +110,24 @@ pub record Fillable (k : Class) (s column : List ℕ) : Type 0 where
 -- a column that holds the offsets of a table, and behind them what it held
 abbrev pub Filled : Class → List ℕ → List ℕ → List ℕ → Type 0
 Filled k s old new = (l : List ℕ) → wordsRead k s ≡ accepted l → new ≡ l ++ drop (length l) old
+
+-- ---- applying
+
+-- each location that bits mark has its whole word inside an image
+pub record Patchable (k : Class) (image : List ℕ) (start set : ℕ) : Type 0 where
+  pub in-window : set < 2 ^ windowOf k
+  pub fits : fit (bytesOf k) (length image) (marksOf k set start) ≡ true
+
+-- a table that the first pass accepted, each of whose offsets has its whole word inside an image
+pub record Targeted (k : Class) (s image : List ℕ) : Type 0 where
+  pub good : Good k s
+  pub fits : fit (bytesOf k) (length image) (good .list) ≡ true
+
+-- an image after an addition for each offset of a table
+abbrev pub Patched : Class → List ℕ → ℕ → List ℕ → List ℕ → Type 0
+Patched k s base old new = (l : List ℕ) → wordsRead k s ≡ accepted l → new ≡ patched (bytesOf k) base l old
+
+-- whether a base is too large for the class
+abbrev pub above : Class → ℕ → Bool
+above Four base = ltb 4294967295 base
+above Eight base = false

@@ -1,10 +1,11 @@
 // RELR tables: read, written and applied.
-ghost use Rattle.relr.specs.Contract.{Reads};
+ghost use Rattle.relr.specs.Contract.{Reads, Applies};
 use answer::Answer;
 use answer::Refusal;
 use word::Class;
 use word::Named;
 
+mod applier;
 mod place;
 mod reader;
 mod walk;
@@ -18,4 +19,15 @@ pub fn read(class: u32, table: &[u8], offsets: &mut [u64]) -> Answer
         return answer::refuse(Refusal::Class, 0);
     };
     reader::read_class(k, table, offsets)
+}
+
+// Adds the base to the image's word at each offset of a table.
+pub fn apply(class: u32, table: &[u8], base: u64, image: &mut [u8]) -> Answer
+    ensures { λ r. ⌜ Applies class (now (table .entry)) base (now (image .entry)) r (now (image .exit)) ⌝ }
+{
+    let named = Class::named(class);
+    let Named::Is(k) = named else {
+        return answer::refuse(Refusal::Class, 0);
+    };
+    applier::apply_class(k, table, base, image)
 }

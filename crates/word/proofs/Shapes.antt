@@ -108,4 +108,12 @@ module _ (k : Class) {r : ℕ} where
   pub eight-lt : k ≡ Eight → r < 2 ^ 64 → r < 2 ^ bitsOf k
   eight-lt e h = rw e h
 
-pub ruleset words = (load-four, load-eight, store-four, store-eight, is-four, is-eight, room-is, load-is, store-is, four-lt, eight-lt, needs)
+-- ---- a sum
+module _ (k : Class) (a b : ℕ) {r : ℕ} (h : r ≡ (a + b) % 2 ^ 64) where
+  pub sum-four : k ≡ Four → r % 4294967296 ≡ (a + b) % 2 ^ bitsOf k
+  sum-four e = rw (e, h) (omega arith)
+
+  pub sum-eight : k ≡ Eight → r ≡ (a + b) % 2 ^ bitsOf k
+  sum-eight e = rw e h
+
+pub ruleset words = (load-four, load-eight, store-four, store-eight, is-four, is-eight, room-is, load-is, store-is, four-lt, eight-lt, sum-four, sum-eight, needs)

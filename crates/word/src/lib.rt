@@ -1,6 +1,6 @@
 // The class of a table, and its words in bytes, low byte first.
 ghost use mathlib.Core.Path.{_≡_};
-ghost use Prim.Native.Nat.{ℕ, _+_, _^_, _≤_, _<_};
+ghost use Prim.Native.Nat.{ℕ, _+_, _%_, _^_, _≤_, _<_};
 ghost use lib.ListN.{length};
 ghost use Rattle.word.specs.Class.{bytesOf, bitsOf, windowOf, classOf};
 ghost use Rattle.word.specs.Word.{wordAt, withWord};
@@ -126,5 +126,15 @@ pub fn store(class: Class, s: &mut [u8], at: usize, w: u64)
     match class {
         Class::Four => store4(s, at, w),
         Class::Eight => store8(s, at, w),
+    }
+}
+
+// The sum of two words, wrapping at the class's bits.
+pub fn add(class: Class, a: u64, b: u64) -> u64
+    ensures { λ r. ⌜ r ≡ (a + b) % 2 ^ bitsOf class ⌝ }
+{
+    match class {
+        Class::Four => std::num::wrapping_add_u64(a, b) % 4294967296,
+        Class::Eight => std::num::wrapping_add_u64(a, b),
     }
 }

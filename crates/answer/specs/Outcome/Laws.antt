@@ -15,7 +15,7 @@ use Rattle.answer.specs.declared.Refusal.{Refusal}
 use Rattle.answer.specs.declared.Refusal.the-variants.{Class, Limit, Identifier, Missing, Width, Order, Space, Trailing, Room, Odd, Columns, Outside, Empty, Addend, Base}
 use Rattle.answer.specs.declared.Found.{Found}
 use Rattle.answer.specs.declared.Found.the-variants.{Count, Refused}
-use Rattle.answer.specs.Outcome.{numberOf, Outcome, accepted, refused, pick, success, refusal, noRoom, answerIn, filled, foundOf, before, after}
+use Rattle.answer.specs.Outcome.{numberOf, Outcome, accepted, refused, pick, success, refusal, noRoom, answerIn, answerOf, filled, foundOf, before, after}
 
 -- ---- a choice: what is to be shown of it, from each of its two cases
 pub pick-by {ℓ ℓ′} : {A : Type ℓ} (P : A → Type ℓ′) (t : Bool) (a b : A) → (t ≡ true → P a) → (t ≡ false → P b) → P (pick t a b)
@@ -84,6 +84,14 @@ module _ {A : Type 0} {o : Outcome (List A)} where
     pub answer-refused : {why : Refusal} {p : ℕ} → o ≡ refused why p → answerIn room o ≡ refusal why p
     unfolding answerIn
     answer-refused e = rw e
+
+  pub answer-all : {k : ℕ} → Counted o k → answerOf o ≡ success k
+  unfolding answerOf
+  answer-all f = rw (f .is, f .long)
+
+  pub answer-none : {why : Refusal} {p : ℕ} → o ≡ refused why p → answerOf o ≡ refusal why p
+  unfolding answerOf
+  answer-none e = rw e
 
   module _ {B : Type 0} (f : A → B) (old : List B) where
     pub filled-fits : {l : List A} → o ≡ accepted l → length l ≤ length old → filled f o old ≡ map f l ++ drop (length l) old

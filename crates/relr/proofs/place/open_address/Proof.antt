@@ -1,4 +1,4 @@
-use Rattle.relr.proofs.Opening.{opening}
+use Rattle.relr.proofs.PlaceNeeds.{opening}
 use borrow.Author.Needs.{needs}
 use Rattle.relr.proofs.place.open_address.Statement.{statement}
 use Rattle.relr.proofs.place.open_address.Tie as tie

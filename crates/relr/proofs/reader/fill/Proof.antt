@@ -1,4 +1,4 @@
-use Rattle.relr.proofs.Fill.{Reading, readings}
+use Rattle.relr.proofs.FillNeeds.{Reading, readings}
 use lib.ListN.{length}
 use Prim.Native.Nat.{_-_}
 use Rattle.relr.proofs.reader.fill.Statement.{statement}

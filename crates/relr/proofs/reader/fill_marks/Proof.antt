@@ -1,4 +1,4 @@
-use Rattle.relr.proofs.Fill.{Filling, markings}
+use Rattle.relr.proofs.FillNeeds.{Filling, markings}
 use mathlib.Core.Logic.{⊎-elim}
 use Rattle.relr.proofs.reader.fill_marks.Statement.{statement}
 use Rattle.relr.proofs.reader.fill_marks.Tie as tie

@@ -2,7 +2,7 @@ use native.Mathlib.Omega.{arith}
 use Prim.Native.Nat.{_-_}
 use mathlib.Core.Logic.{⊎-elim}
 use lib.ListN.{length}
-use Rattle.relr.proofs.Scan.{Scanned, Walking, scans, step-less, scan-load}
+use Rattle.relr.proofs.ScanNeeds.{Scanned, Walking, scans, step-less, scan-load}
 use Rattle.word.specs.Class.Laws.{bytes-least}
 use Rattle.relr.proofs.walk.scan.Statement.{statement}
 use Rattle.relr.proofs.walk.scan.Tie as tie

@@ -1,4 +1,4 @@
-use Rattle.relr.proofs.Scan.{counting}
+use Rattle.relr.proofs.ScanNeeds.{counting}
 use Rattle.relr.proofs.walk.survey.Statement.{statement}
 use Rattle.relr.proofs.walk.survey.Tie as tie
 use Rattle.relr.proofs.walk.survey.Reads as reads

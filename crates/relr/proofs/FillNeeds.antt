@@ -31,9 +31,9 @@ use Rattle.relr.specs.declared.place.Place.the-variants.{Nowhere}
 use Rattle.relr.specs.declared.place.Opened.{Opened}
 use Rattle.relr.specs.declared.place.Opened.the-variants.{Marks, Refused}
 use Rattle.relr.specs.Inner.{Placed, marksOf, OpensAt, wordsRead, below, Markable, Put, Good, Fillable, Filled}
-use Rattle.relr.proofs.Passed.{fit-at, Standing, standing-begin, standing-placed, standing-load, standing-end, Word, word-refused, word-marks, word-done, word-good, Marking, marking-begin, marking-less, marking-head, marking-set, marking-clear, marking-dist, marking-end}
+use Rattle.relr.proofs.Passed.{fit-at, Standing, standing-begin, standing-placed, standing-load, standing-end, Word, word-refused, word-marks, word-done, word-good, among-long, Marking, marking-begin, marking-less, marking-head, marking-set, marking-clear, marking-dist, marking-end}
 use Rattle.relr.proofs.Decoding.{decode-good, within-space}
-use Rattle.relr.proofs.Scan.{step-fits, step-less}
+use Rattle.relr.proofs.ScanNeeds.{step-fits, step-less}
 
 -- the space is that of the widest word at the most
 pub space-most : (k : Class) → spaceOf k ≤ 2 ^ 64
@@ -137,16 +137,16 @@ module _ {k : Class} {s old : List ℕ} (f : Fillable k s old) where
         word = word-marks (g .standing) l e o q
 
         room : length (g .list) + length (marksOf k set start) ≤ length old
-        room = omega (arith, word-good word (f .good .is) .1, length-append (g .list) (marksOf k set start), f .room)
+        room = omega (arith, among-long (word-good word (f .good .is)), f .room)
 
         pub reading-marks : Markable k column i start set
-        reading-marks = record { in-window = word .in-window; fits = word-good word (f .good .is) .0; room = omega (arith, room, reading-long, g .next) }
+        reading-marks = record { in-window = word .in-window; fits = word-good word (f .good .is) .fits; room = omega (arith, room, reading-long, g .next) }
 
         pub reading-more : {new : List ℕ} {c n : ℕ} → c ≡ bytesOf k → Put column i (marksOf k set start) n new → Reading k s old (at + c) next new n
         reading-more {new} {c} {n} ce u =
             record {
               list = g .list ++ marksOf k set start;
-              standing = subst (λ (b : ℕ). Standing k s (g .list ++ marksOf k set start) (at + b) next) (sym ce) (word-done word (word-good word (f .good .is) .0));
+              standing = subst (λ (b : ℕ). Standing k s (g .list ++ marksOf k set start) (at + b) next) (sym ce) (word-done word (word-good word (f .good .is) .fits));
               next = omega (arith, u .next, g .next, length-append (g .list) (marksOf k set start));
               held = u .list ∙ buffer-more (g .list) old i (marksOf k set start) (g .held) (sym (g .next)) (omega (arith, room, g .next)) ∙ rw (u .next);
             }
