@@ -68,14 +68,7 @@ module _ (k : Class) (s : List ℕ) (bound : ℕ) where
       → f ≡ foundOf (within (below bound) (decode k s))
   find-words q e z h = q ∙ ap (λ (o : Outcome (List ℕ)). foundOf (within (below bound) o)) (sym (decode-whole k s (find-whole e z h)))
 
-module _ {k : Class} (n : ℕ) where
-  pub rest-four : k ≡ Four → n % 4 ≡ n % bytesOf k
-  rest-four e = rw e
-
-  pub rest-eight : k ≡ Eight → n % 8 ≡ n % bytesOf k
-  rest-eight e = rw e
-
-pub ruleset finding = (find-long, find-part, find-whole, find-words, rest-four, rest-eight, needs)
+pub ruleset finding = (find-long, find-part, find-whole, find-words, needs)
 
 -- ---- every offset of an accepted table has its word inside the space
 reads-fit : (c n top : ℕ) {w : Where} {t l : List ℕ} → Reads c n top w t l → fit c top l ≡ true

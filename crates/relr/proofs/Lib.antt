@@ -12,3 +12,4 @@ pub mod Decoding
 pub mod FillNeeds
 pub mod ReadNeeds
 pub mod ApplyNeeds
+pub mod PackNeeds

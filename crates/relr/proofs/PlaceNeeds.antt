@@ -50,6 +50,19 @@ module _ {k : Class} where
   pub stride-eight : k ≡ Eight → 504 ≡ windowOf k * bytesOf k
   stride-eight e = rw e
 
+module _ {k : Class} (n : ℕ) where
+  pub rest-four : k ≡ Four → n % 4 ≡ n % bytesOf k
+  rest-four e = rw e
+
+  pub rest-eight : k ≡ Eight → n % 8 ≡ n % bytesOf k
+  rest-eight e = rw e
+
+  pub whole-four : k ≡ Four → n / 4 ≡ n / bytesOf k
+  whole-four e = rw e
+
+  pub whole-eight : k ≡ Eight → n / 8 ≡ n / bytesOf k
+  whole-eight e = rw e
+
 -- ---- a step from one place to the next; r is the last offset of the space
 module _ (k : Class) (u d r : ℕ) (h : r + bytesOf k ≡ spaceOf k) (g : u + bytesOf k ≤ spaceOf k) where
   pub past-low : u ≤ r
@@ -163,4 +176,4 @@ module _ (k : Class) (x : ℕ) where
   pub open-odd : (p : Place) (r : Opened) → (x % 2 ≡ 0 → ⊥) → ((y : ℕ) → y % 2 ≡ 1 → y / 2 ≡ x / 2 → OpensAt k p y r) → OpensAt k p x r
   open-odd p r h f = f x (omega arith) refl
 
-pub ruleset opening = (last-four, last-eight, stride-four, stride-eight, past-low, past-beyond, past-at, address-far, address-in, address-marks, bitmap-nowhere, bitmap-beyond, bitmap-empty, bitmap-at, bitmap-in, half-fits, open-even, open-odd, needs)
+pub ruleset opening = (last-four, last-eight, stride-four, stride-eight, rest-four, rest-eight, whole-four, whole-eight, past-low, past-beyond, past-at, address-far, address-in, address-marks, bitmap-nowhere, bitmap-beyond, bitmap-empty, bitmap-at, bitmap-in, half-fits, open-even, open-odd, needs)

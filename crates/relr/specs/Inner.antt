@@ -3,7 +3,7 @@
 use mathlib.Core.Bool.{Bool, true, false, cond}
 use mathlib.Core.List.{List, [], _∷_, _++_}
 use mathlib.Core.Path.{_≡_}
-use Prim.Native.Nat.{ℕ, _+_, _^_, _%_, _/_, _≤_, _<_}
+use Prim.Native.Nat.{ℕ, suc, _+_, _-_, _*_, _^_, _%_, _/_, _≤_, _<_}
 use lib.Dec.{ltb, eqb}
 use lib.ListN.{length, drop}
 use lib.Seq.{sets}
@@ -16,7 +16,12 @@ use Rattle.word.specs.declared.Class.{Class}
 use Rattle.word.specs.declared.Class.the-variants.{Four, Eight}
 use Rattle.word.specs.Class.{bytesOf, windowOf}
 use Rattle.word.specs.Word.{wordsOf}
-use Rattle.relr.specs.Words.{Where, nowhere, from, marked, fit, read}
+use Rattle.relr.specs.Words.{Where, nowhere, from, marked, fit, read, falls, write, table}
+use Rattle.relr.specs.declared.packer.Location.{Location}
+use Rattle.relr.specs.declared.packer.Location.the-variants.{On, Off}
+use Rattle.relr.specs.declared.packer.Packed.{Packed}
+use Rattle.relr.specs.declared.packer.Packed.the-variants.{Joined, Alone, Flushed, Both}
+use Rattle.relr.specs.declared.packer.Pending.{Pending}
 use Rattle.relr.specs.Table.{spaceOf, patched}
 use Rattle.relr.specs.declared.place.Place.{Place}
 use Rattle.relr.specs.declared.place.Place.the-variants.{Nowhere, At, Beyond}
@@ -131,3 +136,64 @@ Patched k s base old new = (l : List ℕ) → wordsRead k s ≡ accepted l → n
 abbrev pub above : Class → ℕ → Bool
 above Four base = ltb 4294967295 base
 above Eight base = false
+
+-- ---- writing
+
+-- whether x falls on a location of the bitmap that starts at *where* w
+abbrev pub fallsAt : Class → Where → ℕ → Bool
+fallsAt k nowhere x = false
+fallsAt k (from v) x = falls (bytesOf k) (windowOf k) v x
+
+-- the location of x in the bitmap at *where* w
+abbrev pub Located : Class → Where → ℕ → Location → Type 0
+Located k w x (On j) = (v : ℕ) × (w ≡ from v) × (falls (bytesOf k) (windowOf k) v x ≡ true) × (j ≡ (x - v) / bytesOf k)
+Located k w x Off = fallsAt k w x ≡ false
+
+-- the same at a place
+abbrev pub LocatedAt : Class → Place → ℕ → Location → Type 0
+LocatedAt k p x r = (w : Where) → Stands k w p → Located k w x r
+
+-- a location is an index below 63
+abbrev pub Small : Location → Type 0
+Small (On j) = j < 63
+Small Off = Unit {0}
+
+-- where the bitmap after the one at a place starts
+abbrev pub ForwardFrom : Class → Place → Place → Type 0
+ForwardFrom k p r = (v : ℕ) → Stands k (from v) p → Stands k (from (v + windowOf k * bytesOf k)) r
+
+-- the words for the offsets l, where the bitmap b that starts at *where* w is pending, or, if b is 0, where the next would start there
+abbrev pub wordsFor : Class → Where → ℕ → List ℕ → List ℕ
+wordsFor k nowhere b l = table (bytesOf k) (windowOf k) l
+wordsFor k (from v) b l = write (bytesOf k) (windowOf k) l v b
+
+-- the bits of a pending bitmap stand below each location that is not below lo
+abbrev pub Bits : Class → ℕ → Where → ℕ → Type 0
+Bits k lo nowhere b = b ≡ 0
+Bits k lo (from v) b = (m : ℕ) × (m ≤ windowOf k) × (b < 2 ^ m) × ((j : ℕ) → lo ≤ v + j * bytesOf k → m ≤ j)
+
+-- what is pending at *where* w, after offsets below lo
+pub record Holding (k : Class) (lo : ℕ) (w : Where) (p : Place) (b : ℕ) : Type 0 where
+  pub stands : Stands k w p
+  pub bits : Bits k lo w b
+
+-- the offset x, after which q is pending, adds the words `out`
+pub record Adds (k : Class) (w : Where) (b x : ℕ) (out : List ℕ) (q : Pending) : Type 0 where
+  pub v : Where
+  pub holding : Holding k (suc x) v (q .place) (q .bits)
+  pub is : (l : List ℕ) → wordsFor k w b (x ∷ l) ≡ out ++ wordsFor k v (q .bits) l
+
+-- the words that an offset adds
+abbrev pub Adding : Class → Where → ℕ → ℕ → Packed → Type 0
+Adding k w b x (Joined q) = Adds k w b x [] q
+Adding k w b x (Alone q) = Adds k w b x (x ∷ []) q
+Adding k w b x (Flushed y q) = Adds k w b x (y ∷ []) q × (y < spaceOf k)
+Adding k w b x (Both y q) = Adds k w b x (y ∷ x ∷ []) q × (y < spaceOf k)
+
+-- the same, whatever is pending
+abbrev pub Packs : Class → Pending → ℕ → Packed → Type 0
+Packs k p x r = (w : Where) (lo : ℕ) → Holding k lo w (p .place) (p .bits) → lo ≤ x → Adding k w (p .bits) x r
+
+-- the same of an offset that the pending bitmap does not take
+abbrev pub Flushes : Class → Pending → ℕ → Packed → Type 0
+Flushes k p x r = (w : Where) (lo : ℕ) → Holding k lo w (p .place) (p .bits) → lo ≤ x → fallsAt k w x ≡ false → 0 < p .bits → Adding k w (p .bits) x r

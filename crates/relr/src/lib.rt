@@ -6,6 +6,7 @@ use word::Class;
 use word::Named;
 
 mod applier;
+mod packer;
 mod place;
 mod reader;
 mod walk;

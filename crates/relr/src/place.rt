@@ -52,6 +52,25 @@ pub fn stride(k: Class) -> u64
     }
 }
 
+// The whole words in a distance, and the bytes left over.
+pub fn whole(k: Class, d: u64) -> u64
+    ensures { λ r. ⌜ r ≡ d / bytesOf k ⌝ }
+{
+    match k {
+        Class::Four => d / 4,
+        Class::Eight => d / 8,
+    }
+}
+
+pub fn rest(k: Class, d: u64) -> u64
+    ensures { λ r. ⌜ r ≡ d % bytesOf k ⌝ }
+{
+    match k {
+        Class::Four => d % 4,
+        Class::Eight => d % 8,
+    }
+}
+
 // An even word is an offset.
 fn open_address(k: Class, x: u64) -> Opened
     requires { ⌜ x % 2 ≡ 0 ⌝ }

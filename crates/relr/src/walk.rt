@@ -1,6 +1,6 @@
 // The first pass over a table: how many offsets it stands for, or its first fault.
 ghost use mathlib.Core.Path.{_≡_};
-ghost use Prim.Native.Nat.{_%_, _^_, _≤_, _<_};
+ghost use Prim.Native.Nat.{_^_, _≤_, _<_};
 ghost use lib.ListN.{length};
 ghost use Rattle.answer.specs.Outcome.{foundOf, inputLimit};
 ghost use Rattle.word.specs.Class.{bytesOf};
@@ -35,16 +35,6 @@ fn survey(count: u64, inside: u64) -> Found
         return Found::Count(count);
     }
     Found::Refused(Refusal::Outside, inside)
-}
-
-// What is left of a length over whole words.
-fn rest(k: Class, n: usize) -> usize
-    ensures { λ r. ⌜ r ≡ n % bytesOf k ⌝ }
-{
-    match k {
-        Class::Four => n % 4,
-        Class::Eight => n % 8,
-    }
 }
 
 // The walk over words and set bits, left at the first fault. Of a table that has none, each offset is held against a bound.
@@ -95,7 +85,7 @@ pub fn find(k: Class, s: &[u8], bound: u64) -> Found
     if answer::INPUT_LIMIT < s.len() {
         return Found::Refused(Refusal::Limit, 0);
     }
-    if 0 < rest(k, s.len()) {
+    if 0 < place::rest(k, s.len() as u64) {
         return Found::Refused(Refusal::Missing, s.len() as u64);
     }
     scan(k, s, bound)
