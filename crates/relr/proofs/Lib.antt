@@ -13,3 +13,5 @@ pub mod FillNeeds
 pub mod ReadNeeds
 pub mod ApplyNeeds
 pub mod PackNeeds
+pub mod WriteNeeds
+pub mod PutNeeds

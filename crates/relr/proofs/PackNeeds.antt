@@ -142,9 +142,6 @@ alone-is k p q b c x o z ce s w lo h l =
     }
 
 -- ---- the pending bitmap is written first
-full-lt : (k : Class) (v lo b : ℕ) → Bits k lo (from v) b → 2 * b + 1 < spaceOf k
-full-lt k v lo b (m, h, l, f) = omega (arith, pow-mono h, space-window k)
-
 module _ (k : Class) (p : Place) (b x : ℕ) (pos : 0 < b) where
   some-from : (w : Where) (lo : ℕ) → Bits k lo w b → (v : ℕ) × (w ≡ from v)
   some-from nowhere lo e = absurd (omega arith)
@@ -167,22 +164,22 @@ module _ (k : Class) (p : Place) (b x : ℕ) (pos : 0 < b) where
         let je′ : j ≡ (x - (v + windowOf k * bytesOf k)) / bytesOf k = rw ue at je in
         let bs : Bits k (suc x) (from (v + windowOf k * bytesOf k)) (0 + 2 ^ j) =
         joined-bits k (v + windowOf k * bytesOf k) lo 0 x j (0, omega arith, omega arith, λ i q. omega arith) l g′ je′ in
-        (record {
+        record {
           v = from (v + windowOf k * bytesOf k);
           holding = record { stands = st; bits = rw (re, ← zero-add (2 ^ j)) bs };
           is = λ m. flushed-words v m f ∙ ap (λ (t : List ℕ). (2 * b + 1) ∷ t)
           (write-join (bytesOf k) (windowOf k) x m (v + windowOf k * bytesOf k) 0 g′ ∙ rw (zero-add, re, je′));
-        }, full-lt k v lo b (h .bits))
+        }
 
     both-from : (q : Place) (c v lo : ℕ) → Holding k lo (from v) p b → falls (bytesOf k) (windowOf k) v x ≡ false → LocatedAt k next x Off → c ≡ bytesOf k → Stands k (from (x + c)) q
         → Adding k (from v) b x (Both (2 * b + 1) (record { place = q; bits = 0 }))
     both-from q c v lo h f o ce s =
         let g = o (from (v + windowOf k * bytesOf k)) (fw v (h .stands)) in
-        (record {
+        record {
           v = from (x + bytesOf k);
           holding = record { stands = rw ce at s; bits = alone-bits k x };
           is = λ m. flushed-words v m f ∙ ap (λ (t : List ℕ). (2 * b + 1) ∷ t) (write-word (bytesOf k) (windowOf k) x m (v + windowOf k * bytesOf k) g);
-        }, full-lt k v lo b (h .bits))
+        }
 
 -- as the code asks them
 module _ (k : Class) (p : Place) (b x : ℕ) (next : Place) (fw : ForwardFrom k p next) where

@@ -59,6 +59,11 @@ pub record Writes (class : ℕ) (l old : List ℕ) (r : Answer) (new : List ℕ)
   pub table : new ≡ filled itself (encoding class l) old
   pub least : (k : Class) → classOf class ≡ Is k → Writable k l → Least k l old r new
 
+-- the first two for a class
+pub record WritesIn (k : Class) (l old : List ℕ) (r : Answer) (new : List ℕ) : Type 0 where
+  pub answer : r ≡ answerIn (length old) (encode k l)
+  pub table : new ≡ filled itself (encode k l) old
+
 -- ---- apply
 
 -- the offsets at which the table s is applied to an image of so many bytes

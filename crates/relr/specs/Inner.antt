@@ -7,7 +7,7 @@ use Prim.Native.Nat.{ℕ, suc, _+_, _-_, _*_, _^_, _%_, _/_, _≤_, _<_}
 use lib.Dec.{ltb, eqb}
 use lib.ListN.{length, drop}
 use lib.Seq.{sets}
-use Rattle.answer.specs.declared.Refusal.the-variants.{Space, Outside}
+use Rattle.answer.specs.declared.Refusal.the-variants.{Order, Space, Odd, Outside}
 use Rattle.answer.specs.declared.Found.{Found}
 use Rattle.answer.specs.declared.Found.the-variants.{Count}
 use Rattle.answer.specs.declared.Found.the-variants as found
@@ -15,14 +15,16 @@ use Rattle.answer.specs.Outcome.{Outcome, accepted, refused, after, inputLimit}
 use Rattle.word.specs.declared.Class.{Class}
 use Rattle.word.specs.declared.Class.the-variants.{Four, Eight}
 use Rattle.word.specs.Class.{bytesOf, windowOf}
-use Rattle.word.specs.Word.{wordsOf}
-use Rattle.relr.specs.Words.{Where, nowhere, from, marked, fit, read, falls, write, table}
+use Rattle.word.specs.Word.{wordsOf, bytesOfWords}
+use Rattle.relr.specs.Words.{Where, nowhere, from, marked, fit, read, falls, write, table, Legal}
 use Rattle.relr.specs.declared.packer.Location.{Location}
 use Rattle.relr.specs.declared.packer.Location.the-variants.{On, Off}
 use Rattle.relr.specs.declared.packer.Packed.{Packed}
 use Rattle.relr.specs.declared.packer.Packed.the-variants.{Joined, Alone, Flushed, Both}
 use Rattle.relr.specs.declared.packer.Pending.{Pending}
-use Rattle.relr.specs.Table.{spaceOf, patched}
+use Rattle.relr.specs.declared.writer.Fault.{Fault}
+use Rattle.relr.specs.declared.writer.Fault.the-variants.{Clean, Bad}
+use Rattle.relr.specs.Table.{spaceOf, checked, patched}
 use Rattle.relr.specs.declared.place.Place.{Place}
 use Rattle.relr.specs.declared.place.Place.the-variants.{Nowhere, At, Beyond}
 use Rattle.relr.specs.declared.place.Opened.{Opened}
@@ -183,12 +185,22 @@ pub record Adds (k : Class) (w : Where) (b x : ℕ) (out : List ℕ) (q : Pendin
   pub holding : Holding k (suc x) v (q .place) (q .bits)
   pub is : (l : List ℕ) → wordsFor k w b (x ∷ l) ≡ out ++ wordsFor k v (q .bits) l
 
--- the words that an offset adds
+-- the words that a step adds, and what is pending after it
+abbrev pub outOf : ℕ → Packed → List ℕ
+outOf x (Joined q) = []
+outOf x (Alone q) = x ∷ []
+outOf x (Flushed y q) = y ∷ []
+outOf x (Both y q) = y ∷ x ∷ []
+
+abbrev pub afterOf : Packed → Pending
+afterOf (Joined q) = q
+afterOf (Alone q) = q
+afterOf (Flushed y q) = q
+afterOf (Both y q) = q
+
+-- what an offset does
 abbrev pub Adding : Class → Where → ℕ → ℕ → Packed → Type 0
-Adding k w b x (Joined q) = Adds k w b x [] q
-Adding k w b x (Alone q) = Adds k w b x (x ∷ []) q
-Adding k w b x (Flushed y q) = Adds k w b x (y ∷ []) q × (y < spaceOf k)
-Adding k w b x (Both y q) = Adds k w b x (y ∷ x ∷ []) q × (y < spaceOf k)
+Adding k w b x r = Adds k w b x (outOf x r) (afterOf r)
 
 -- the same, whatever is pending
 abbrev pub Packs : Class → Pending → ℕ → Packed → Type 0
@@ -197,3 +209,27 @@ Packs k p x r = (w : Where) (lo : ℕ) → Holding k lo w (p .place) (p .bits) �
 -- the same of an offset that the pending bitmap does not take
 abbrev pub Flushes : Class → Pending → ℕ → Packed → Type 0
 Flushes k p x r = (w : Where) (lo : ℕ) → Holding k lo w (p .place) (p .bits) → lo ≤ x → fallsAt k w x ≡ false → 0 < p .bits → Adding k w (p .bits) x r
+
+-- what is wrong with an offset of which `least` is the least allowed, as `checked` looks for it
+abbrev pub faultOf : Class → ℕ → ℕ → Fault
+faultOf k x least = cond (eqb (x % 2) 1) (Bad Odd) (cond (ltb (spaceOf k) (x + bytesOf k)) (Bad Space) (cond (ltb x least) (Bad Order) Clean))
+
+-- the words of a bitmap that is pending at the end
+abbrev pub endOf : ℕ → List ℕ
+endOf b = cond (ltb 0 b) ((2 * b + 1) ∷ []) []
+
+-- the bytes of a table, and the outcome of a list that is not too long
+abbrev pub tableBytes : Class → List ℕ → List ℕ
+tableBytes k l = bytesOfWords (bytesOf k) (table (bytesOf k) (windowOf k) l)
+
+unfoldable pub checkedTable : Class → List ℕ → Outcome (List ℕ)
+checkedTable k l = checked (bytesOf k) (spaceOf k) 0 0 l (accepted (tableBytes k l))
+
+-- a list that the first pass accepted, and room for its table
+pub record Encodable (k : Class) (l old : List ℕ) : Type 0 where
+  pub legal : Legal (bytesOf k) (spaceOf k) 0 l
+  pub room : length (tableBytes k l) ≤ length old
+
+-- room for bytes at a place
+abbrev pub Room : ℕ → ℕ → List ℕ → Type 0
+Room at n old = at + n ≤ length old

@@ -10,6 +10,7 @@ mod packer;
 mod place;
 mod reader;
 mod walk;
+mod writer;
 
 // Reads the offsets of a table into a column.
 pub fn read(class: u32, table: &[u8], offsets: &mut [u64]) -> Answer

@@ -1,10 +1,11 @@
 // The writer's step: what one more offset adds to the words of a table.
 ghost use mathlib.Core.Path.{_≡_};
 ghost use Prim.Native.Nat.{ℕ, _+_, _*_, _/_, _%_, _^_, _≤_, _<_};
+ghost use lib.ListN.{length};
 ghost use Rattle.word.specs.Class.{bytesOf, windowOf};
 ghost use Rattle.relr.specs.Table.{spaceOf};
 ghost use Rattle.relr.specs.declared.place.Place.the-variants.{At};
-ghost use Rattle.relr.specs.Inner.{Placed, LocatedAt, Small, ForwardFrom, Flushes, Packs};
+ghost use Rattle.relr.specs.Inner.{Placed, LocatedAt, Small, ForwardFrom, Flushes, Packs, outOf, afterOf};
 use crate::place;
 use crate::place::Place;
 use word::Class;
@@ -127,5 +128,29 @@ pub fn pack(k: Class, p: Pending, x: u64) -> Packed
                 bits: 0,
             })
         }
+    }
+}
+
+// How many words a step adds.
+pub fn added(packed: Packed) -> u64
+    ensures { λ r. ⌜ r ≡ length (outOf 0 packed) ⌝ }
+{
+    match packed {
+        Packed::Joined(_) => 0,
+        Packed::Alone(_) => 1,
+        Packed::Flushed(_, _) => 1,
+        Packed::Both(_, _) => 2,
+    }
+}
+
+// What is pending after a step.
+pub fn after(packed: Packed) -> Pending
+    ensures { λ r. ⌜ r ≡ afterOf packed ⌝ }
+{
+    match packed {
+        Packed::Joined(p) => p,
+        Packed::Alone(p) => p,
+        Packed::Flushed(_, p) => p,
+        Packed::Both(_, p) => p,
     }
 }

@@ -179,6 +179,10 @@ bytes-words-append n [] ws = refl
 bytes-words-append n (v ∷ vs) ws =
     ap (λ (l : List ℕ). bytesIn n v ++ l) (bytes-words-append n vs ws) ∙ sym (append-assoc (bytesIn n v) (bytesOfWords n vs) (bytesOfWords n ws))
 
+pub bytes-words-none : (n : ℕ) → bytesOfWords n [] ≡ []
+unfolding bytesOfWords
+bytes-words-none n = refl
+
 pub bytes-words-one : (n w : ℕ) → bytesOfWords n (w ∷ []) ≡ bytesIn n w
 unfolding bytesOfWords
 bytes-words-one n w = simp append-nil
