@@ -15,3 +15,4 @@ pub mod ApplyNeeds
 pub mod PackNeeds
 pub mod WriteNeeds
 pub mod PutNeeds
+pub mod Least

@@ -168,7 +168,7 @@ module _ (k : Class) (p : Place) (b x : ℕ) (pos : 0 < b) where
           v = from (v + windowOf k * bytesOf k);
           holding = record { stands = st; bits = rw (re, ← zero-add (2 ^ j)) bs };
           is = λ m. flushed-words v m f ∙ ap (λ (t : List ℕ). (2 * b + 1) ∷ t)
-          (write-join (bytesOf k) (windowOf k) x m (v + windowOf k * bytesOf k) 0 g′ ∙ rw (zero-add, re, je′));
+              (write-join (bytesOf k) (windowOf k) x m (v + windowOf k * bytesOf k) 0 g′ ∙ rw (zero-add, re, je′));
         }
 
     both-from : (q : Place) (c v lo : ℕ) → Holding k lo (from v) p b → falls (bytesOf k) (windowOf k) v x ≡ false → LocatedAt k next x Off → c ≡ bytesOf k → Stands k (from (x + c)) q

@@ -99,6 +99,7 @@ pub record Putting (k : Class) (l old : List ℕ) (i : ℕ) (p : Pending) (at : 
   pub legal : Legal (bytesOf k) (spaceOf k) lo (drop i l)
   pub place : at ≡ length (bytesOfWords (bytesOf k) out)
   pub held : now ≡ bytesOfWords (bytesOf k) out ++ drop at old
+  pub within : i ≤ length l
 
 pub putting-begin : (k : Class) (l old : List ℕ) → Encodable k l old → Putting k l old 0 (record { place = Nowhere; bits = 0 }) 0 old
 putting-begin k l old h =
@@ -109,16 +110,23 @@ putting-begin k l old h =
       legal = h .legal;
       place = rw bytes-words-none;
       held = rw bytes-words-none;
+      within = omega arith;
     }
 
 module _ {k : Class} {l old : List ℕ} (f : Encodable k l old) {i at : ℕ} {p : Pending} {now : List ℕ} (g : Putting k l old i p at now) where
   -- what is written is a part of the table
   part : (b : List ℕ) (rest : List ℕ) → table (bytesOf k) (windowOf k) l ≡ g .out ++ (b ++ rest) → at + length (bytesOfWords (bytesOf k) b) ≤ length old
   part b rest e =
-      omega (arith, f .room, g .place, ap (λ (t : List ℕ). length (bytesOfWords (bytesOf k) t)) e,
-      ap length (bytes-words-append (bytesOf k) (g .out) (b ++ rest)), ap length (bytes-words-append (bytesOf k) b rest),
-      length-append (bytesOfWords (bytesOf k) (g .out)) (bytesOfWords (bytesOf k) (b ++ rest)),
-      length-append (bytesOfWords (bytesOf k) b) (bytesOfWords (bytesOf k) rest))
+      omega (
+        arith,
+        f .room,
+        g .place,
+        ap (λ (t : List ℕ). length (bytesOfWords (bytesOf k) t)) e,
+        ap length (bytes-words-append (bytesOf k) (g .out) (b ++ rest)),
+        ap length (bytes-words-append (bytesOf k) b rest),
+        length-append (bytesOfWords (bytesOf k) (g .out)) (bytesOfWords (bytesOf k) (b ++ rest)),
+        length-append (bytesOfWords (bytesOf k) b) (bytesOfWords (bytesOf k) rest),
+      )
 
   at-most : at ≤ length old
   at-most = omega (arith, part [] _ (g .packing .so))
@@ -132,11 +140,21 @@ module _ {k : Class} {l old : List ℕ} (f : Encodable k l old) {i at : ℕ} {p 
   pub putting-small : p .bits < 2 ^ 63
   putting-small = holding-small k (g .packing .holding)
 
+  pub putting-double : Fits w64 (2 * p .bits)
+  putting-double = record { fits = omega (arith, putting-small) }
+
+  pub putting-full : Fits w64 (2 * p .bits + 1)
+  putting-full = record { fits = omega (arith, putting-small) }
+
+  pub putting-kept : (new : List ℕ) → length new ≡ length now → length new ≡ length old
+  putting-kept new e = e ∙ putting-long
+
   stored : (b : List ℕ) {n : ℕ} {new : List ℕ} → at + length (bytesOfWords (bytesOf k) b) ≤ length old → Put now at (bytesOfWords (bytesOf k) b) n new
       → (n ≡ length (bytesOfWords (bytesOf k) (g .out ++ b))) × (new ≡ bytesOfWords (bytesOf k) (g .out ++ b) ++ drop n old)
-  stored b h u =
-      (omega (arith, u .next, g .place, ap length (bytes-words-append (bytesOf k) (g .out) b), length-append (bytesOfWords (bytesOf k) (g .out)) (bytesOfWords (bytesOf k) b)),
-      u .list ∙ buffer-more (bytesOfWords (bytesOf k) (g .out)) old at (bytesOfWords (bytesOf k) b) (g .held) (sym (g .place)) h ∙ rw (u .next, ← bytes-words-append (bytesOf k) (g .out) b))
+  stored b h u = (
+    omega (arith, u .next, g .place, ap length (bytes-words-append (bytesOf k) (g .out) b), length-append (bytesOfWords (bytesOf k) (g .out)) (bytesOfWords (bytesOf k) b)),
+    u .list ∙ buffer-more (bytesOfWords (bytesOf k) (g .out)) old at (bytesOfWords (bytesOf k) b) (g .held) (sym (g .place)) h ∙ rw (u .next, ← bytes-words-append (bytesOf k) (g .out) b),
+  )
 
   module _ {n x : ℕ} (ne : n ≡ length l) (il : i < n) (xe : x ≡ getD l i 0) where
     left : drop i l ≡ x ∷ drop (i + 1) l
@@ -162,7 +180,7 @@ module _ {k : Class} {l old : List ℕ} (f : Encodable k l old) {i at : ℕ} {p 
       pub putting-more : {m : ℕ} {q : Pending} {new : List ℕ} → q ≡ afterOf r → Put now at (bytesOfWords (bytesOf k) (outOf x r)) m new → Putting k l old (i + 1) q m new
       putting-more qe u =
           let (a, b) = stored (outOf x r) fits u in
-          record { out = g .out ++ outOf x r; lo = x + 1; packing = rw qe more; legal = next-legal .2; place = a; held = b }
+          record { out = g .out ++ outOf x r; lo = x + 1; packing = rw qe more; legal = next-legal .2; place = a; held = b; within = omega arith }
 
   module _ {n : ℕ} (ne : n ≡ length l) (il : n ≤ i) where
     ended : table (bytesOf k) (windowOf k) l ≡ g .out ++ endOf (p .bits)
@@ -188,7 +206,7 @@ module _ {k : Class} {l old : List ℕ} (f : Encodable k l old) {i at : ℕ} {p 
           let (a, b) = stored ((2 * p .bits + 1) ∷ []) room u in
           rw (last, ← a) b
 
-pub ruleset puttings = (putting-begin, putting-long, putting-placed, putting-small, putting-in, putting-room, putting-more, putting-done, putting-last, putting-end, needs)
+pub ruleset puttings = (putting-begin, putting-long, putting-kept, putting-double, putting-full, putting-placed, putting-small, putting-in, putting-room, putting-more, putting-done, putting-last, putting-end, needs)
 
 -- ---- a write as a whole
 module _ (k : Class) (l old : List ℕ) where

@@ -44,7 +44,7 @@ encoding class l = inClass (classOf class) λ k. encode k l
 -- accepted and decodes to l
 pub record Least (k : Class) (l old : List ℕ) (r : Answer) (new : List ℕ) : Type 0 where
   pub need : ℕ
-  pub least : (t : List ℕ) → Bytes t → decode k t ≡ accepted l → need ≤ length t
+  pub least : (t : List ℕ) → decode k t ≡ accepted l → need ≤ length t
   pub some : List ℕ
   pub some-bytes : Bytes some
   pub some-long : length some ≡ need

@@ -1,5 +1,5 @@
 // RELR tables: read, written and applied.
-ghost use Rattle.relr.specs.Contract.{Reads, Applies};
+ghost use Rattle.relr.specs.Contract.{Reads, Writes, Applies};
 use answer::Answer;
 use answer::Refusal;
 use word::Class;
@@ -21,6 +21,17 @@ pub fn read(class: u32, table: &[u8], offsets: &mut [u64]) -> Answer
         return answer::refuse(Refusal::Class, 0);
     };
     reader::read_class(k, table, offsets)
+}
+
+// Writes the least table for a list of offsets.
+pub fn write(class: u32, offsets: &[u64], table: &mut [u8]) -> Answer
+    ensures { λ r. ⌜ Writes class (now (offsets .entry)) (now (table .entry)) r (now (table .exit)) ⌝ }
+{
+    let named = Class::named(class);
+    let Named::Is(k) = named else {
+        return answer::refuse(Refusal::Class, 0);
+    };
+    writer::write_class(k, offsets, table)
 }
 
 // Adds the base to the image's word at each offset of a table.

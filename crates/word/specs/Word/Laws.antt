@@ -9,7 +9,7 @@ use native.Mathlib.Omega.{arith}
 use lib.Pow.{pow-add, shr-shr}
 use lib.ListN.{length, getD, take, drop, set, length-append, length-take, length-drop, List·getD-append, take-append-drop}
 use lib.Seq.{sets, sets-eq, length-sets, drop-cons, take-append-seam, drop-append-seam, drop-at, take-at, length-take-le, getD-take, getD-drop, getD-append-add, drop-drop, take-all}
-use Rattle.answer.specs.Bytes.{Bytes, bytes-drop, bytes-take}
+use Rattle.answer.specs.Bytes.{Bytes, bytes-append, bytes-drop, bytes-take}
 use Rattle.word.specs.Word.{valueOf, bytesIn, wordAt, withWord, firstWords, wordsOf, bytesOfWords}
 
 -- each word fits n bytes
@@ -186,6 +186,11 @@ bytes-words-none n = refl
 pub bytes-words-one : (n w : ℕ) → bytesOfWords n (w ∷ []) ≡ bytesIn n w
 unfolding bytesOfWords
 bytes-words-one n w = simp append-nil
+
+pub bytes-words-are : (n : ℕ) (ws : List ℕ) → Bytes (bytesOfWords n ws)
+unfolding bytesOfWords
+bytes-words-are n [] = tt
+bytes-words-are n (w ∷ ws) = bytes-append (bytesIn n w) (bytesOfWords n ws) (bytes-are n w) (bytes-words-are n ws)
 
 first-words-back : (n : ℕ) (ws : List ℕ) → Words n ws → firstWords n (length ws) (bytesOfWords n ws) ≡ ws
 unfolding firstWords bytesOfWords
