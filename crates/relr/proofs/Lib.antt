@@ -16,3 +16,4 @@ pub mod PackNeeds
 pub mod WriteNeeds
 pub mod PutNeeds
 pub mod Least
+pub mod CursorNeeds

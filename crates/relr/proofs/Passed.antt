@@ -66,6 +66,14 @@ fit-at c top x (y ∷ p) q h = go (leb (y + c) top) (fit-at c top x p q) h
     go true ih f = ih f
     go false ih f = let z : _≡_ {A = ℕ} 0 1 = cc in absurd (omega arith)
 
+pub fit-tail : (c top x : ℕ) (l : List ℕ) → fit c top (x ∷ l) ≡ true → fit c top l ≡ true
+unfolding fit
+fit-tail c top x l h = go (leb (x + c) top) h
+  where
+    go : (b : Bool) → (b && fit c top l) ≡ true → fit c top l ≡ true
+    go true e = e
+    go false e = let z : _≡_ {A = ℕ} 0 1 = cc in absurd (omega arith)
+
 pub fit-left : (c top : ℕ) (p q : List ℕ) → fit c top (p ++ q) ≡ true → fit c top p ≡ true
 unfolding fit
 fit-left c top [] q h = refl

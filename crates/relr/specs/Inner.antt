@@ -15,13 +15,16 @@ use Rattle.answer.specs.Outcome.{Outcome, accepted, refused, after, inputLimit}
 use Rattle.word.specs.declared.Class.{Class}
 use Rattle.word.specs.declared.Class.the-variants.{Four, Eight}
 use Rattle.word.specs.Class.{bytesOf, windowOf}
-use Rattle.word.specs.Word.{wordsOf, bytesOfWords}
+use Rattle.word.specs.Word.{wordsOf, firstWords, bytesOfWords}
 use Rattle.relr.specs.Words.{Where, nowhere, from, marked, fit, read, falls, write, table, Legal}
 use Rattle.relr.specs.declared.packer.Location.{Location}
 use Rattle.relr.specs.declared.packer.Location.the-variants.{On, Off}
 use Rattle.relr.specs.declared.packer.Packed.{Packed}
 use Rattle.relr.specs.declared.packer.Packed.the-variants.{Joined, Alone, Flushed, Both}
 use Rattle.relr.specs.declared.packer.Pending.{Pending}
+use Rattle.relr.specs.declared.cursor.Cursor.{Cursor}
+use Rattle.relr.specs.declared.cursor.Step.{Step}
+use Rattle.relr.specs.declared.cursor.Step.the-variants.{Offset, End}
 use Rattle.relr.specs.declared.writer.Fault.{Fault}
 use Rattle.relr.specs.declared.writer.Fault.the-variants.{Clean, Bad}
 use Rattle.relr.specs.Table.{spaceOf, checked, patched}
@@ -233,3 +236,41 @@ pub record Encodable (k : Class) (l old : List ℕ) : Type 0 where
 -- room for bytes at a place
 abbrev pub Room : ℕ → ℕ → List ℕ → Type 0
 Room at n old = at + n ≤ length old
+
+-- ---- the cursor
+
+-- what is left of an accepted table: the locations that the bits left mark, and then those of the words left
+pub record Rests (k : Class) (s : List ℕ) (at : ℕ) (p : Place) (start d bits : ℕ) (l : List ℕ) : Type 0 where
+  pub left : ℕ
+  pub w : Where
+  pub long : length s ≡ at + left * bytesOf k
+  pub stands : Stands k w p
+  pub tail : List ℕ
+  pub is : readOf k (firstWords (bytesOf k) left (drop at s)) at w ≡ accepted tail
+  pub j : ℕ
+  pub passed : j ≤ windowOf k
+  pub dist : d ≡ j * bytesOf k
+  pub small : bits < 2 ^ (windowOf k - j)
+  pub fits : fit (bytesOf k) (spaceOf k) (marked (bytesOf k) (windowOf k - j) bits (start + d)) ≡ true
+  pub list : l ≡ marked (bytesOf k) (windowOf k - j) bits (start + d) ++ tail
+
+-- a cursor before the offsets l of a table
+abbrev pub Before : Class → List ℕ → Cursor → List ℕ → Type 0
+Before k s c l = Rests k s (c .at) (c .place) (c .start) (c .distance) (c .bits) l
+
+-- a cursor over some table
+pub record Running (k : Class) (s : List ℕ) (c : Cursor) : Type 0 where
+  pub list : List ℕ
+  pub before : Before k s c list
+
+-- a cursor that starts is before all the offsets of any accepted table
+abbrev pub Starts : Cursor → Type 0
+Starts c = (k : Class) (s l : List ℕ) → Whole k s → wordsRead k s ≡ accepted l → Before k s c l
+
+-- a step from before the offsets l: the first of them and a cursor before the others, or the end where there is none
+abbrev pub Stepped : Class → List ℕ → List ℕ → Step → Type 0
+Stepped k s l (Offset x c) = (m : List ℕ) × (l ≡ x ∷ m) × Before k s c m
+Stepped k s l End = l ≡ []
+
+abbrev pub Steps : Class → List ℕ → Cursor → Step → Type 0
+Steps k s c r = (l : List ℕ) → Before k s c l → Stepped k s l r

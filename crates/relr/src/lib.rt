@@ -6,6 +6,7 @@ use word::Class;
 use word::Named;
 
 mod applier;
+pub mod cursor;
 mod packer;
 mod place;
 mod reader;
