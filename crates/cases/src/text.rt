@@ -18,6 +18,12 @@ pub fn signed(x: i64) {
     }
 }
 
+// A number behind a space.
+pub fn item(x: u64) {
+    put(b" ");
+    number(x);
+}
+
 fn byte(b: u8) {
     put(b" ");
     io::print_hex(STDOUT_FILENO, b as u64, 2);

@@ -1,0 +1,72 @@
+use borrow.Author.Needs.{needs}
+use lib.ListN.{length}
+use Prim.Native.Nat.{_-_, _≤_}
+use Rattle.cases.proofs.offsets.column.Statement.{statement}
+use Rattle.cases.proofs.offsets.column.Tie as tie
+use Rattle.cases.proofs.offsets.column.Reads as reads
+use Rattle.cases.proofs.offsets.column.Lts as lts
+use Rattle.cases.proofs.text.item.Reads as item-reads
+use Rattle.cases.proofs.text.put.Reads as put-reads
+
+abbrev Inv-loop : tie.InvT-loop
+Inv-loop values i₀ t3 i = i ≤ length values
+
+abbrev μ-loop : tie.MeasureT-loop
+μ-loop values i₀ t3 i = length values - i
+
+-- src/offsets.rt:16:5
+loop-holds : tie.Need-loop-holds Inv-loop μ-loop
+loop-holds c = search needs
+
+-- src/offsets.rt:17:20
+mul-item : tie.Need-mul-item Inv-loop μ-loop
+mul-item c = search needs
+
+-- src/offsets.rt:17:20
+shared-slice-read-item : tie.Need-shared-slice-read-item Inv-loop μ-loop
+shared-slice-read-item c = search needs
+
+-- src/offsets.rt:17:9
+item-requires : tie.Need-item-requires Inv-loop μ-loop
+item-requires c κs = search needs
+
+-- src/offsets.rt:18:9
+add-i : tie.Need-add-i Inv-loop μ-loop
+add-i c = search needs
+
+-- src/offsets.rt:16:5
+loop-less : tie.Need-loop-less Inv-loop μ-loop
+loop-less c = search needs
+
+-- src/offsets.rt:16:5
+loop-again : tie.Need-loop-again Inv-loop μ-loop
+loop-again c = search needs
+
+-- src/offsets.rt:20:15
+slice-aggregate-put : tie.Need-slice-aggregate-put Inv-loop μ-loop
+slice-aggregate-put c = search needs
+
+-- src/offsets.rt:20:5
+put-requires : tie.Need-put-requires Inv-loop μ-loop
+put-requires c κs = search needs
+
+-- src/offsets.rt:14:1
+returns : tie.Need-returns Inv-loop μ-loop
+returns c = search needs
+
+pub column-spec : {M : Type 1} → statement M
+column-spec =
+    tie.close
+    (tie.spec
+    Inv-loop
+    μ-loop
+    loop-holds
+    mul-item
+    shared-slice-read-item
+    item-requires
+    add-i
+    loop-less
+    loop-again
+    slice-aggregate-put
+    put-requires
+    returns)
