@@ -2,8 +2,9 @@
 ghost use Rattle.apa1.specs.Contract.{Reads};
 use answer::Answer;
 use answer::Found;
-use answer::Refusal;
 use answer::INPUT_LIMIT;
+use answer::Refusal;
+
 mod reader;
 
 // The records of a table, into a column of offsets and one of addends.

@@ -39,7 +39,11 @@ fn entry_at(s: &[u8], at: usize, offset: u64, addend: i64) -> Entry
     let Signed::Value(e, past) = second else {
         return without(second);
     };
-    Entry::Record(wrap::moved(64, offset, d), wrap::add_signed(64, addend, e), past)
+    Entry::Record(
+        wrap::moved(64, offset, d),
+        wrap::add_signed(64, addend, e),
+        past,
+    )
 }
 
 // The refusal of the count's number, as the count's.
