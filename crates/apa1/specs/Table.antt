@@ -72,15 +72,19 @@ unfoldable pub rows : List ℕ → List ℤ → List Row
 rows os us = zipped (map row os) us
 
 -- a record after the one before it: its differences, each wrapped to a signed number of 64 bits, in their shortest form
-unfoldable pub bytesOf : Row → Row → Put
-bytesOf prev x = bytes (shortSigned (wrapped 64 (pos (x .offset) -ℤ pos (prev .offset))) ++ shortSigned (wrapped 64 (x .addend -ℤ prev .addend)))
+unfoldable pub entryBytes : Row → Row → List ℕ
+entryBytes prev x = shortSigned (wrapped 64 (pos (x .offset) -ℤ pos (prev .offset))) ++ shortSigned (wrapped 64 (x .addend -ℤ prev .addend))
+
+-- every record has bytes
+abbrev pub bytesOf : Row → Row → Put
+bytesOf prev x = bytes (entryBytes prev x)
 
 -- the record behind which the next one stands
 abbrev pub behind : Row → Row → Row
 behind prev x = x
 
 -- the identifier and the count of n records
-abbrev pub headOf : ℕ → List ℕ
+unfoldable pub headOf : ℕ → List ℕ
 headOf n = identifier ++ shortSigned (pos n)
 
 -- the table of a list

@@ -7,7 +7,8 @@ use native.Mathlib.Omega.{arith}
 use lib.ListN.{length, length-append}
 use Rattle.answer.specs.declared.Refusal.{Refusal}
 use Rattle.answer.specs.Outcome.{Outcome, accepted, refused, before, after}
-use Rattle.answer.specs.Outcome.Laws.{accepted-refused, before-accepted, Behind, behind, after-after, after-end}
+use Rattle.answer.specs.Outcome.Laws.{accepted-refused, before-accepted, Behind, behind}
+use Rattle.records.proofs.Writing.{after-accepted}
 use Rattle.records.specs.Columns.{Each}
 use Rattle.records.specs.Reading.{Step, one, records}
 use Rattle.records.specs.Reading.Laws.{records-more, records-end}
@@ -18,9 +19,6 @@ use Rattle.records.specs.Writing.Laws.{puts-more, puts-bad, puts-end}
 pub record Accepts {A : Type 0} (o : Outcome A) : Type 0 where
   pub list : A
   pub is : o ≡ accepted list
-
-pub after-accepted : {A : Type 0} (xs : List A) {o : Outcome (List A)} {l : List A} → o ≡ accepted l → after xs o ≡ accepted (xs ++ l)
-after-accepted xs {l = l} e = ap (after xs) (e ∙ sym (after-end l)) ∙ after-after xs l _ ∙ after-end (xs ++ l)
 
 module _ {S A : Type 0} (put : S → A → Put) (next : S → A → S) where
   -- the first record's bytes, and those of the rest

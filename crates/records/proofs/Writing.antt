@@ -5,15 +5,18 @@ use mathlib.Core.Path.{_≡_, refl, ap, sym, _∙_}
 use mathlib.Core.List.{List, [], _∷_, _++_}
 use native.Mathlib.Omega.{arith}
 use lib.ListN.{length, drop, length-append, drop-of-length-le}
-use lib.Seq.{length-sets}
+use lib.Seq.{length-sets, sets-eq}
 use Rattle.answer.specs.declared.Refusal.{Refusal}
 use Rattle.answer.specs.declared.Found.the-variants.{Count, Refused}
-use Rattle.answer.specs.Outcome.{Outcome, accepted, refused, after, foundOf}
-use Rattle.answer.specs.Outcome.Laws.{after-none, after-after, after-refused, after-end, after-long, found-accepted, found-refused, accepted-refused}
+use Rattle.answer.specs.Outcome.{Outcome, accepted, refused, after, foundOf, filled}
+use Rattle.answer.specs.Outcome.Laws.{after-none, after-after, after-refused, after-long, found-accepted, found-refused, accepted-refused, Behind, behind, after-end, filled-self}
 use Rattle.leb128.specs.Number.{Written}
 use Rattle.leb128.proofs.Laws.{written-then}
 use Rattle.records.specs.Writing.{Put, bytes, none, puts, Fits, Puts}
 use Rattle.records.specs.Writing.Laws.{puts-more, puts-bad, puts-end}
+
+pub after-accepted : {A : Type 0} (xs : List A) {o : Outcome (List A)} {l : List A} → o ≡ accepted l → after xs o ≡ accepted (xs ++ l)
+after-accepted xs {l = l} e = ap (after xs) (e ∙ sym (after-end l)) ∙ after-after xs l _ ∙ after-end (xs ++ l)
 
 -- the whole is the bytes of what stands before the records, of those passed, and then of those from index i on
 pub record Passed {S A : Type 0} (put : S → A → Put) (next : S → A → S) (whole : Outcome (List ℕ)) (l : List A) (done : List ℕ) (i : ℕ) (st : S) : Type 0 where
@@ -97,3 +100,30 @@ module _ {S A : Type 0} {put : S → A → Put} {next : S → A → S} {whole : 
 
   pub putting-end : length l ≤ i → Puts whole old now first
   putting-end h = record { list = p .done; past = at; is = passed-end (p .passed) h; written = p .written }
+
+-- ---- a table's head, and then its records
+module _ (head : List ℕ) (body : Outcome (List ℕ)) {old : List ℕ} (f : Fits (after head body) old 0) where
+  rest : Behind head body (f .list)
+  rest = behind head body (f .is)
+
+  pub head-room : 0 + length head ≤ length old
+  head-room = omega (arith, f .room, ap length (rest .whole), length-append head (rest .rest))
+
+  pub body-room : {mid : List ℕ} {at : ℕ} → Written old mid 0 at head → Fits body mid at
+  body-room w =
+      record {
+        list = rest .rest;
+        is = rest .is;
+        room = omega (arith, f .room, ap length (rest .whole), length-append head (rest .rest), w .place, ap length (w .list), length-sets old 0 head);
+      }
+
+pub both-written : {head : List ℕ} {body : Outcome (List ℕ)} {old mid new : List ℕ} {at : ℕ} → Written old mid 0 at head → Puts body mid new at → Puts (after head body) old new 0
+both-written {head = head} w p = record { list = head ++ p .list; past = p .past; is = after-accepted head (p .is); written = written-then w (p .written) }
+
+-- ---- accepted bytes at the front of a buffer with room are what the buffer then holds
+pub puts-filled : {o : Outcome (List ℕ)} {old new : List ℕ} → Fits o old 0 → Puts o old new 0 → new ≡ filled (λ (b : ℕ). b) o old
+puts-filled {o} {old} f p =
+    let e : p .list ≡ f .list = (let q : accepted (p .list) ≡ accepted (f .list) = sym (p .is) ∙ f .is in cc) in
+    let h : 0 + length (p .list) ≤ length old = omega (arith, f .room, ap length e) in
+    let k : 0 + length (p .list) ≡ length (p .list) = omega arith in
+    p .written .list ∙ sets-eq (p .list) old 0 h ∙ rw k (sym (filled-self old (p .is) (omega arith)))

@@ -13,10 +13,12 @@ use Rattle.answer.specs.declared.Refusal.{Refusal}
 use Rattle.answer.specs.declared.Refusal.the-variants.{Limit, Columns}
 use Rattle.answer.specs.declared.Found.{Found}
 use Rattle.answer.specs.declared.Found.the-variants as found
-use Rattle.answer.specs.Outcome.{Outcome, accepted, refused, inputLimit, success, refusal, noRoom, foundOf}
+use Rattle.answer.specs.Outcome.{Outcome, accepted, refused, inputLimit, listLimit, success, refusal, noRoom, foundOf}
 use Rattle.answer.specs.Outcome.Laws.{answer-fits, answer-long, answer-refused, filled-long, filled-refused, Counted, counted, not-found}
-use Rattle.apa1.specs.Table.{Row, decode}
-use Rattle.apa1.specs.Contract.{offsetOf, addendOf, readOutcome, Filled, Fillable, Reads}
+use Rattle.records.specs.Writing.{Puts}
+use Rattle.records.proofs.Writing.{puts-filled}
+use Rattle.apa1.specs.Table.{Row, decode, rows, encode}
+use Rattle.apa1.specs.Contract.{offsetOf, addendOf, readOutcome, Filled, Fillable, Reads, writeOutcome, Listed, Puttable, Takes, Writes}
 
 -- ---- reading
 module _ (s : List ℕ) (m k : ℕ) where
@@ -72,3 +74,50 @@ fillable s os us e g same h =
     record { fitting = record { list = c .list; is = c .is; fits = omega arith }; same = same }
 
 pub ruleset reading = (reads-uneven, reads-huge, reads-not, reads-long, fillable, reads-full, needs)
+
+-- ---- writing
+module _ (os : List ℕ) (us : List ℤ) where
+  write-uneven : (length os ≡ length us → ⊥) → writeOutcome os us ≡ refused Columns 0
+  unfolding writeOutcome
+  write-uneven h = rw (ne-eqb (length os) (length us) h)
+
+  write-many : length os ≡ length us → listLimit < length os → writeOutcome os us ≡ refused Limit 0
+  unfolding writeOutcome
+  write-many h l = rw (eq-eqb (length os) (length us) h, lt-leb (length os) listLimit l)
+
+  pub write-plain : length os ≡ length us → length os ≤ listLimit → writeOutcome os us ≡ encode (rows os us)
+  unfolding writeOutcome
+  write-plain h l = rw (eq-eqb (length os) (length us) h, le-leb (length os) listLimit l)
+
+  pub listed : length os ≡ length us → length os ≤ listLimit → Listed os us
+  listed h l = record { same = h; few = l }
+
+  module _ (old : List ℕ) {r : Answer} where
+    stays : {why : Refusal} {p : ℕ} → r ≡ refusal why p → writeOutcome os us ≡ refused why p → Writes os us old r old
+    stays a e = record { answer = a ∙ sym (answer-refused (length old) e); table = sym (filled-refused (λ (b : ℕ). b) old e) }
+
+    pub writes-uneven : r ≡ refusal Columns 0 → (length os ≡ length us → ⊥) → Writes os us old r old
+    writes-uneven a h = stays a (write-uneven h)
+
+    pub writes-many : r ≡ refusal Limit 0 → length os ≡ length us → listLimit < length os → Writes os us old r old
+    writes-many a h l = stays a (write-many h l)
+
+    module _ {k : ℕ} (e : Takes os us k) (same : length os ≡ length us) (few : length os ≤ listLimit) where
+      pub writes-long : r ≡ noRoom k → length old < k → Writes os us old r old
+      writes-long a h =
+          let c = counted (encode (rows os us)) (sym (e .found)) in
+          let p = write-plain same few in
+          record { answer = a ∙ rw p (sym (answer-long (length old) c h)); table = rw p (sym (filled-long (λ (b : ℕ). b) old c h)) }
+
+      pub writes-full : {new : List ℕ} → r ≡ success k → k ≤ length old → Puts (encode (rows os us)) old new 0 → Writes os us old r new
+      writes-full a h d =
+          let c = counted (encode (rows os us)) (sym (e .found)) in
+          let p = write-plain same few in
+          record { answer = a ∙ rw p (sym (answer-fits (length old) c h)); table = rw p (puts-filled (record { list = c .list; is = c .is; room = omega (arith, c .long) }) d) }
+
+  pub puttable : (old : List ℕ) {k : ℕ} → Takes os us k → length os ≡ length us → k ≤ length old → Puttable (encode (rows os us)) os us old 0
+  puttable old e same h =
+      let c = counted (encode (rows os us)) (sym (e .found)) in
+      record { same = same; fits = record { list = c .list; is = c .is; room = omega (arith, c .long) } }
+
+pub ruleset writing = (writes-uneven, writes-many, listed, writes-long, puttable, writes-full, needs)

@@ -1,13 +1,13 @@
 -- The cases of the format's definitions, as equations.
 -- Assumes nothing.
-use Prim.Native.Nat.{ℕ, _+_, _<_}
+use Prim.Native.Nat.{ℕ, _+_, _^_, _≤_, _<_}
 use mathlib.Core.Path.{_≡_, refl, ap, sym, _∙_}
 use mathlib.Core.Bool.{true, false}
 use mathlib.Core.List.{List, [], _∷_, _++_, map}
 use lib.IntN.{ℤ, pos, negsuc, _+ℤ_, _-ℤ_}
 use native.Mathlib.Omega.{arith}
 use lib.Signed.{mag}
-use lib.ListN.{length, drop, getD, length-map}
+use lib.ListN.{length, drop, getD, length-map, length-append}
 use Rattle.answer.specs.declared.Refusal.{Refusal}
 use Rattle.answer.specs.declared.Refusal.the-variants.{Identifier, Width}
 use Rattle.answer.specs.Outcome.{Outcome, accepted, refused, pick, after}
@@ -19,8 +19,10 @@ use Rattle.records.specs.Columns.Laws.{from, map-from, zipped-from, zipped-leng
 use Rattle.records.specs.Identifier.{startsWith}
 use Rattle.records.specs.Reading.{Step, one, none, counted}
 use Rattle.records.specs.Writing.{Put, bytes, puts}
+use Rattle.leb128.proofs.RoundTrip.{signed-bytes}
 use Rattle.wrap.specs.Wrap.{residue, wrapped}
-use Rattle.apa1.specs.Table.{Row, row, start, identifier, secondOf, firstOf, stepAt, countOf, headAt, decode, rows, bytesOf, behind, headOf, encode}
+use Rattle.wrap.specs.Wrap.Laws.{wrapped-range}
+use Rattle.apa1.specs.Table.{Row, row, start, identifier, secondOf, firstOf, stepAt, countOf, headAt, decode, rows, entryBytes, bytesOf, behind, headOf, encode}
 
 -- ---- a record
 module _ (s : List ℕ) (at : ℕ) (prev : Row) where
@@ -67,3 +69,35 @@ count-other (negsuc n) first e = let o : _≡_ {A = ℕ} 0 1 = cc in absurd (ome
 pub decode-is : (s : List ℕ) → decode s ≡ counted (stepAt s) (length s) start (headAt s)
 unfolding decode
 decode-is s = refl
+
+-- ---- the records of columns
+module _ (os : List ℕ) (us : List ℤ) (same : length os ≡ length us) where
+  pub rows-length : length (rows os us) ≡ length os
+  unfolding rows
+  rows-length = zipped-length (map row os) us (length-map os row ∙ same) ∙ sym same
+
+  pub rows-from : (i : ℕ) → i < length os → drop i (rows os us) ≡ row (getD os i 0) (getD us i (pos 0)) ∷ drop (i + 1) (rows os us)
+  unfolding rows
+  rows-from i h = zipped-from (map row os) us i (map-from row os i (from os i 0 h)) (from us i (pos 0) (omega arith))
+
+-- ---- the bytes
+pub encode-is : (l : List Row) → encode l ≡ after (headOf (length l)) (puts bytesOf behind 0 start l)
+unfolding encode
+encode-is l = refl
+
+pub head-bytes : (n : ℕ) → headOf n ≡ identifier ++ shortSigned (pos n)
+unfolding headOf
+head-bytes n = refl
+
+pub entry-bytes : (prev x : Row) → entryBytes prev x ≡ shortSigned (wrapped 64 (pos (x .offset) -ℤ pos (prev .offset))) ++ shortSigned (wrapped 64 (x .addend -ℤ prev .addend))
+unfolding entryBytes
+entry-bytes prev x = refl
+
+pub entry-most : (prev x : Row) → length (entryBytes prev x) ≤ 20
+entry-most prev x =
+    let d = wrapped 64 (pos (x .offset) -ℤ pos (prev .offset)) in
+    let a = wrapped 64 (x .addend -ℤ prev .addend) in
+    rw (entry-bytes prev x) (omega (arith, length-append (shortSigned d) (shortSigned a), signed-bytes 64 d (omega arith) (wrapped-range 64 (omega arith) _), signed-bytes 64 a (omega arith) (wrapped-range 64 (omega arith) _)))
+
+pub head-most : (n : ℕ) → n < 2 ^ 63 → length (headOf n) ≤ 14
+head-most n h = rw (head-bytes n) (omega (arith, length-append identifier (shortSigned (pos n)), signed-bytes 64 (pos n) (omega arith) h))
