@@ -1,13 +1,19 @@
 -- What was written reads back; how many bytes that takes; and which lists have bytes.
 -- Assumes nothing.
-use Prim.Native.Nat.{ℕ, suc, _+_, _-_, _*_, _≤_, _<_}
+use Prim.Native.Nat.{ℕ, suc, _+_, _-_, _*_, _^_, _≤_, _<_}
 use mathlib.Core.Path.{_≡_, refl, ap, sym, _∙_}
 use mathlib.Core.List.{List, [], _∷_, _++_, append-assoc, append-nil}
 use native.Mathlib.Omega.{arith}
+use lib.IntN.{ℤ}
+use lib.Signed.{mag}
 use lib.ListN.{length, length-append}
 use Rattle.answer.specs.declared.Refusal.{Refusal}
 use Rattle.answer.specs.Outcome.{Outcome, accepted, refused, before, after}
 use Rattle.answer.specs.Outcome.Laws.{accepted-refused, before-accepted, Behind, behind}
+use Rattle.leb128.specs.Number.{readSigned, readUnsigned, shortSigned, shortUnsigned}
+use Rattle.leb128.specs.declared.Signed.the-variants.{Value as SValue}
+use Rattle.leb128.specs.declared.Unsigned.the-variants.{Value as UValue}
+use Rattle.leb128.proofs.Laws.{between-signed, between-unsigned}
 use Rattle.records.proofs.Writing.{after-accepted}
 use Rattle.records.specs.Columns.{Each}
 use Rattle.records.specs.Reading.{Step, one, records}
@@ -61,6 +67,14 @@ module _ {S A : Type 0} (put : S → A → Put) (next : S → A → S) where
         let b = has st x (h .0) in
         let r = puts-accepted has l (i + 1) (next st x) (h .1) in
         record { list = b .0 ++ r .list; is = puts-more put next i st x l (b .1) ∙ after-accepted (b .0) (r .is) }
+
+-- ---- a number that stands between two lists
+module _ (B : ℕ) (s pre post : List ℕ) (at : ℕ) (wide : 0 < B) (here : length pre ≡ at) where
+  pub signed-here : (z : ℤ) → mag z < 2 ^ (B - 1) → s ≡ pre ++ (shortSigned z ++ post) → readSigned B s at ≡ SValue z (length (pre ++ shortSigned z))
+  signed-here z h e = rw (e, ← here, length-append pre (shortSigned z)) (between-signed B z pre post wide h)
+
+  pub unsigned-here : (x : ℕ) → x < 2 ^ B → s ≡ pre ++ (shortUnsigned x ++ post) → readUnsigned B s at ≡ UValue x (length (pre ++ shortUnsigned x))
+  unsigned-here x h e = rw (e, ← here, length-append pre (shortUnsigned x)) (between-unsigned B x pre post wide h)
 
 -- ---- the round trip
 -- each record's bytes, wherever they stand, read back as that record, with the place past them and the state behind it

@@ -77,11 +77,11 @@ pub ruleset reading = (reads-uneven, reads-huge, reads-not, reads-long, fillable
 
 -- ---- writing
 module _ (os : List ℕ) (us : List ℤ) where
-  write-uneven : (length os ≡ length us → ⊥) → writeOutcome os us ≡ refused Columns 0
+  pub write-uneven : (length os ≡ length us → ⊥) → writeOutcome os us ≡ refused Columns 0
   unfolding writeOutcome
   write-uneven h = rw (ne-eqb (length os) (length us) h)
 
-  write-many : length os ≡ length us → listLimit < length os → writeOutcome os us ≡ refused Limit 0
+  pub write-many : length os ≡ length us → listLimit < length os → writeOutcome os us ≡ refused Limit 0
   unfolding writeOutcome
   write-many h l = rw (eq-eqb (length os) (length us) h, lt-leb (length os) listLimit l)
 
