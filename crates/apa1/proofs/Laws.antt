@@ -45,11 +45,11 @@ encode-accepts l =
 pub encode-most : (l : List Row) {b : List ℕ} → length l < 2 ^ 63 → encode l ≡ accepted b → length b ≤ 14 + 20 * length l
 encode-most l {b} h e =
     let c = Outcome.behind (headOf (length l)) (puts bytesOf behind 0 start l) (sym (encode-is l) ∙ e) in
-    let m = puts-most bytesOf behind 20 few l 0 start (c .is) in
+    let m = puts-most bytesOf behind (λ (x : Row). Unit {0}) 20 few l 0 start (any l) (c .is) in
     omega (arith, ap length (c .whole), length-append (headOf (length l)) (c .rest), head-most (length l) h)
   where
-    few : (st x : Row) (b : List ℕ) → bytesOf st x ≡ bytes b → length b ≤ 20
-    few st x b e = let f : entryBytes st x ≡ b = cc in rw (← f) (entry-most st x)
+    few : (st x : Row) (b : List ℕ) → Unit {0} → bytesOf st x ≡ bytes b → length b ≤ 20
+    few st x b u e = let f : entryBytes st x ≡ b = cc in rw (← f) (entry-most st x)
 
 -- ---- what the columns hold: an offset of 64 bits, and an addend of a sign and 63
 abbrev pub Fine : Row → Type 0

@@ -48,12 +48,12 @@ module _ {S A : Type 0} (put : S → A → Put) (next : S → A → S) where
   cut-none i st {b} e = let h : accepted [] ≡ accepted b = sym (puts-end put next i st) ∙ e in cc
 
   -- ---- the bytes of a list are at most as many as its records may take
-  pub puts-most : (most : ℕ) → ((st : S) (x : A) (b : List ℕ) → put st x ≡ bytes b → length b ≤ most)
-      → (l : List A) (i : ℕ) (st : S) {b : List ℕ} → puts put next i st l ≡ accepted b → length b ≤ most * length l
-  puts-most most few [] i st e = rw (cut-none i st e) (omega arith)
-  puts-most most few (x ∷ l) i st e =
+  pub puts-most : (Fine : A → Type 0) (most : ℕ) → ((st : S) (x : A) (b : List ℕ) → Fine x → put st x ≡ bytes b → length b ≤ most)
+      → (l : List A) (i : ℕ) (st : S) {b : List ℕ} → Each Fine l → puts put next i st l ≡ accepted b → length b ≤ most * length l
+  puts-most Fine most few [] i st f e = rw (cut-none i st e) (omega arith)
+  puts-most Fine most few (x ∷ l) i st f e =
       let c = cut i st x l e in
-      omega (arith, puts-most most few l (i + 1) (next st x) (c .left), few st x (c .first) (c .is), ap length (c .whole), length-append (c .first) (c .rest))
+      omega (arith, puts-most Fine most few l (i + 1) (next st x) (f .1) (c .left), few st x (c .first) (f .0) (c .is), ap length (c .whole), length-append (c .first) (c .rest))
 
   -- ---- a list has bytes exactly where each of its records has, if that does not depend on the state
   module _ (Legal : A → Type 0) where

@@ -5,6 +5,8 @@ use mathlib.Core.Path.{_≡_, refl, ap, sym, _∙_}
 use mathlib.Core.Bool.{Bool, true, false}
 use native.Mathlib.Nat.{mod-eq-of-lt, one-mul, mod-add-mod, mod-lt, add-mod}
 use native.Mathlib.Omega.{arith}
+use lib.Dec.{ltb, eqb}
+use borrow.Author.Tests.{lt-ltb}
 use lib.IntN.{ℤ, pos, negsuc, _+ℤ_, _-ℤ_, -ℤ-+ℤ-cancel}
 use lib.Pow.{pow-lt, pow-mono, pow-pos}
 use lib.Signed.{mag}
@@ -14,8 +16,8 @@ use mir.Facts.{toZ-pos, toZ-ofZ}
 use borrow.Author.Needs.{needs}
 use Rattle.leb128.specs.Number.{IsWidth, isNeg}
 use Rattle.leb128.proofs.Signs.{minus-is}
-use Rattle.wrap.specs.Wrap.{residue, signedIn, wrapped}
-use Rattle.wrap.specs.Wrap.Laws.{residue-lt, pos-is, residue-add, residue-sub, residue-small, residue-low, low-low, signed-low, signed-high, halves, signed-range}
+use Rattle.wrap.specs.Wrap.{residue, signedIn, wrapped, same}
+use Rattle.wrap.specs.Wrap.Laws.{residue-lt, pos-is, residue-add, residue-sub, residue-small, residue-low, low-low, signed-low, signed-high, halves, signed-range, same-bits}
 
 -- ---- 2 to the k, and the low bits
 pub power-is : (k : ℕ) → k < 64 → (1 * 2 ^ k) % 2 ^ 64 ≡ 2 ^ k
@@ -44,14 +46,14 @@ residue-other (pos n) h e = omega arith
 residue-other (negsuc n) h e = let z : _≡_ {A = ℕ} 0 1 = cc in absurd (omega arith)
 
 module _ (x : ℤ) {m : ℕ} {t : Bool} (s : SFits w64 x) (e : m ≡ mag (toZ w64 (ofZ w64 x))) (f : t ≡ isNeg (toZ w64 (ofZ w64 x))) where
-  same : toZ w64 (ofZ w64 x) ≡ x
-  same = toZ-ofZ {w = w64} s
+  read-back : toZ w64 (ofZ w64 x) ≡ x
+  read-back = toZ-ofZ {w = w64} s
 
   pub bits-negative : t ≡ true → 18446744073709551615 - m ≡ residue 64 x
-  bits-negative h = let k : isNeg x ≡ true = ap isNeg (sym same) ∙ sym f ∙ h in rw (e, same) (residue-negative x (s .sfits) k)
+  bits-negative h = let k : isNeg x ≡ true = ap isNeg (sym read-back) ∙ sym f ∙ h in rw (e, read-back) (residue-negative x (s .sfits) k)
 
   pub bits-other : t ≡ false → m ≡ residue 64 x
-  bits-other h = let k : isNeg x ≡ false = ap isNeg (sym same) ∙ sym f ∙ h in rw (e, same) (residue-other x (s .sfits) k)
+  bits-other h = let k : isNeg x ≡ false = ap isNeg (sym read-back) ∙ sym f ∙ h in rw (e, read-back) (residue-other x (s .sfits) k)
 
 pub ruleset wording = (bits-negative, bits-other, needs)
 
@@ -135,3 +137,19 @@ module _ (B : ℕ) (wide : IsWidth B) where
         k ∙ h ∙ ap (signedIn B) (g ∙ residue-sub B a b (residue B (pos x -ℤ pos y)) (residue-lt B (pos x -ℤ pos y)) l)
 
 pub ruleset sums = (add-is, sub-is, moved-is, distance-is, residue-fits, sum-fits, add-signed-is, sub-signed-is, needs)
+
+-- ---- tests
+module _ (B x : ℕ) where
+  pub within-low : {p : ℕ} → p ≡ 2 ^ B → ltb x p ≡ ltb x (2 ^ B)
+  within-low e = ap (ltb x) e
+
+  pub within-all : x < 2 ^ 64 → 64 ≤ B → true ≡ ltb x (2 ^ B)
+  within-all h l = sym (lt-ltb x (2 ^ B) (omega (arith, pow-mono {i = 64} {j = B} l)))
+
+pub within-size : (B : ℕ) (x : ℤ) {m p : ℕ} → m ≡ mag (toZ w64 (ofZ w64 x)) → toZ w64 (ofZ w64 x) ≡ x → p ≡ 2 ^ (B - 1) → ltb m p ≡ ltb (mag x) (2 ^ (B - 1))
+within-size B x e i f = rw (e, i, f)
+
+pub equal-is : (x y : ℤ) → SFits w64 x → SFits w64 y → eqb (ofZ w64 x) (ofZ w64 y) ≡ same x y
+equal-is x y h k = same-bits x y (h .sfits) (k .sfits)
+
+pub ruleset tests = (within-low, within-all, within-size, equal-is, needs)

@@ -1,9 +1,11 @@
 // Sums and differences that wrap at a width, of unsigned and of signed numbers.
 ghost use mathlib.Core.Path.{_≡_};
 ghost use Prim.Native.Nat.{ℕ, _+_, _-_, _%_, _^_, _≤_, _<_};
+ghost use lib.Dec.{ltb};
+ghost use lib.Signed.{mag};
 ghost use lib.IntN.{pos, negsuc, _+ℤ_, _-ℤ_};
 ghost use Rattle.leb128.specs.Number.{IsWidth};
-ghost use Rattle.wrap.specs.Wrap.{residue, signedIn, wrapped};
+ghost use Rattle.wrap.specs.Wrap.{residue, signedIn, wrapped, same};
 
 // 2 to the k, in a word.
 fn power(k: u32) -> u64
@@ -107,4 +109,30 @@ pub fn sub_signed(width: u32, a: i64, b: i64) -> i64
     ensures { λ r. ⌜ r ≡ wrapped width (a -ℤ b) ⌝ }
 {
     signed(width, sub(width, bits(a), bits(b)))
+}
+
+// Whether a number has at most so many bits.
+pub fn within(width: u32, x: u64) -> bool
+    requires { ⌜ IsWidth width ⌝ }
+    ensures { λ r. ⌜ r ≡ ltb x (2 ^ width) ⌝ }
+{
+    if width < 64 {
+        return x < power(width);
+    }
+    true
+}
+
+// Whether a signed number has at most so many bits, the sign among them.
+pub fn within_signed(width: u32, x: i64) -> bool
+    requires { ⌜ IsWidth width ⌝ }
+    ensures { λ r. ⌜ r ≡ ltb (mag x) (2 ^ (width - 1)) ⌝ }
+{
+    leb128::magnitude(x) < power(width - 1)
+}
+
+// Whether two signed numbers are one.
+pub fn equal(a: i64, b: i64) -> bool
+    ensures { λ r. ⌜ r ≡ same a b ⌝ }
+{
+    a == b
 }

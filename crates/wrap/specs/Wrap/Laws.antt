@@ -4,15 +4,17 @@ use Prim.Native.Nat.{ℕ, zero, suc, _+_, _-_, _*_, _/_, _%_, _^_, _≤_, _<_}
 use mathlib.Core.Path.{_≡_, refl, ap, sym, _∙_}
 use mathlib.Core.Bool.{Bool, true, false, cond}
 use native.Mathlib.Nat.{mod-lt, mod-eq-of-lt, mod-mod, mod-add-mod, add-mod-mod, add-mod, mod-add-div', mul-mod-left, add-mul-mod-self-right, zero-mod, zero-add}
-use native.Mathlib.Decide.{decLt}
+use native.Mathlib.Decide.{decLt, ℕ-discrete}
 use native.Mathlib.Omega.{arith}
-use lib.Dec.{ltb}
+use lib.Dec.{ltb, eqb}
+use mir.Syntax.{w64}
+use mir.Val.{ofZ}
 use lib.IntN.{ℤ, pos, negsuc, subℕ, _+ℤ_, _-ℤ_, negℤ, +ℤ-comm, +ℤ-assoc, -ℤ-+ℤ-cancel}
 use lib.Pow.{pow-pos, pow-mono, mod-mod-pow}
 use lib.Signed.{mag}
-use borrow.Author.Tests.{lt-ltb, le-ltb, ltb-true, ltb-false}
+use borrow.Author.Tests.{lt-ltb, le-ltb, ltb-true, ltb-false, eqb-true, eq-eqb, ne-eqb}
 use Rattle.answer.specs.Outcome.{pick}
-use Rattle.wrap.specs.Wrap.{residue, signedIn, wrapped}
+use Rattle.wrap.specs.Wrap.{residue, signedIn, wrapped, same}
 
 -- ---- modulo M
 module _ (M : ℕ) (some : 0 < M) where
@@ -174,3 +176,23 @@ residue-low B (negsuc n) h =
     let r = residue 64 (negsuc n) in
     neg-only B (r % 2 ^ B) n (mod-lt r (pow-pos B))
     (mod-add-mod r (2 ^ B) (suc n) ∙ sym (low-low B (r + suc n) h) ∙ rw (neg-whole 64 n) (zero-mod (2 ^ B)))
+
+-- ---- equal whole numbers
+pub same-true : (x y : ℤ) → same x y ≡ true → x ≡ y
+unfolding same
+same-true (pos a) (pos b) e = ap pos (eqb-true a b e)
+same-true (pos a) (negsuc b) e = let o : _≡_ {A = ℕ} 0 1 = cc in absurd (omega arith)
+same-true (negsuc a) (pos b) e = let o : _≡_ {A = ℕ} 0 1 = cc in absurd (omega arith)
+same-true (negsuc a) (negsuc b) e = ap negsuc (eqb-true a b e)
+
+-- the bits of two signed numbers are equal exactly where the numbers are
+pub same-bits : (x y : ℤ) → mag x < 2 ^ 63 → mag y < 2 ^ 63 → eqb (ofZ w64 x) (ofZ w64 y) ≡ same x y
+unfolding same
+same-bits (pos a) (pos b) h k = refl
+same-bits (pos a) (negsuc b) h k = ne-eqb a (2 ^ 64 - suc b) (λ e. omega arith)
+same-bits (negsuc a) (pos b) h k = ne-eqb (2 ^ 64 - suc a) b (λ e. omega arith)
+same-bits (negsuc a) (negsuc b) h k =
+    elim (ℕ-discrete a b) [
+      | yes e ↦ eq-eqb (2 ^ 64 - suc a) (2 ^ 64 - suc b) (omega arith) ∙ sym (eq-eqb a b e)
+      | no n ↦ ne-eqb (2 ^ 64 - suc a) (2 ^ 64 - suc b) (λ e. n (omega arith)) ∙ sym (ne-eqb a b n)
+    ]
