@@ -39,7 +39,15 @@ fn without_offset(number: Unsigned) -> Entry
 }
 
 // The record whose addend's difference stands at a place.
-fn with_addend(s: &[u8], at: usize, width: u32, offset: u64, kind: u32, symbol: u32, base: i64) -> Entry
+fn with_addend(
+    s: &[u8],
+    at: usize,
+    width: u32,
+    offset: u64,
+    kind: u32,
+    symbol: u32,
+    base: i64,
+) -> Entry
     requires { ⌜ IsWidth width ⌝ }
     ensures { λ r. ⌜ entryStep r ≡ addendOf width base offset kind symbol (readSigned width (now (s .entry)) at) ⌝ }
 {
@@ -47,7 +55,13 @@ fn with_addend(s: &[u8], at: usize, width: u32, offset: u64, kind: u32, symbol: 
     let Signed::Value(change, past) = fourth else {
         return without(fourth);
     };
-    Entry::Record(offset, kind, symbol, wrap::add_signed(width, base, change), past)
+    Entry::Record(
+        offset,
+        kind,
+        symbol,
+        wrap::add_signed(width, base, change),
+        past,
+    )
 }
 
 // The symbol of a symbol field.
@@ -78,7 +92,15 @@ fn with_symbol(s: &[u8], at: usize, width: u32, offset: u64, kind: u32, base: i6
 }
 
 // The record whose type's difference stands at a place.
-fn with_type(s: &[u8], at: usize, width: u32, offset: u64, before: u64, kind: u32, base: i64) -> Entry
+fn with_type(
+    s: &[u8],
+    at: usize,
+    width: u32,
+    offset: u64,
+    before: u64,
+    kind: u32,
+    base: i64,
+) -> Entry
     requires { ⌜ IsWidth width ⌝ }
     ensures { λ r. ⌜ entryStep r ≡ typeOf width (now (s .entry)) (state before kind base) offset (readSigned 32 (now (s .entry)) at) ⌝ }
 {
@@ -99,7 +121,15 @@ fn entry_at(s: &[u8], at: usize, width: u32, offset: u64, kind: u32, addend: i64
     let Unsigned::Value(d, next) = first else {
         return without_offset(first);
     };
-    with_type(s, next, width, wrap::add(width, offset, d), offset, kind, addend)
+    with_type(
+        s,
+        next,
+        width,
+        wrap::add(width, offset, d),
+        offset,
+        kind,
+        addend,
+    )
 }
 
 // The first pass over so many records from a place on: their count, or the refusal.
@@ -145,7 +175,16 @@ pub fn scan(s: &[u8], width: u32) -> Found
 }
 
 // The second pass over records that the first accepted.
-fn store(s: &[u8], width: u32, count: u64, first: usize, offsets: &mut [u64], types: &mut [u32], symbols: &mut [u32], addends: &mut [i64])
+fn store(
+    s: &[u8],
+    width: u32,
+    count: u64,
+    first: usize,
+    offsets: &mut [u64],
+    types: &mut [u32],
+    symbols: &mut [u32],
+    addends: &mut [i64],
+)
     requires { ⌜ (IsWidth width) × (Fillable (records (stepAt width (now s)) (length (now s)) count first start) (now offsets) (now types) (now symbols) (now addends)) ⌝ }
     ensures { λ _. ⌜ Filled (records (stepAt width (now (s .entry))) (length (now (s .entry))) count first start) (now (offsets .entry)) (now (types .entry)) (now (symbols .entry)) (now (addends .entry)) (now (offsets .exit)) (now (types .exit)) (now (symbols .exit)) (now (addends .exit)) ⌝ }
 {
@@ -177,7 +216,14 @@ fn store(s: &[u8], width: u32, count: u64, first: usize, offsets: &mut [u64], ty
 }
 
 // The records of a table that `scan` accepted, in columns with room for them.
-pub fn fill(s: &[u8], width: u32, offsets: &mut [u64], types: &mut [u32], symbols: &mut [u32], addends: &mut [i64])
+pub fn fill(
+    s: &[u8],
+    width: u32,
+    offsets: &mut [u64],
+    types: &mut [u32],
+    symbols: &mut [u32],
+    addends: &mut [i64],
+)
     requires { ⌜ (IsWidth width) × (Fillable (decode width (now s)) (now offsets) (now types) (now symbols) (now addends)) ⌝ }
     ensures { λ _. ⌜ Filled (decode width (now (s .entry))) (now (offsets .entry)) (now (types .entry)) (now (symbols .entry)) (now (addends .entry)) (now (offsets .exit)) (now (types .exit)) (now (symbols .exit)) (now (addends .exit)) ⌝ }
 {
