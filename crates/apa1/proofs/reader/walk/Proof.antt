@@ -1,0 +1,69 @@
+use Rattle.apa1.proofs.Pass.{Walking, walks}
+use Rattle.apa1.proofs.reader.walk.Statement.{statement}
+use Rattle.apa1.proofs.reader.walk.Tie as tie
+use Rattle.apa1.proofs.reader.walk.Reads as reads
+use Rattle.apa1.proofs.reader.walk.Lts as lts
+use Rattle.apa1.proofs.reader.entry_at.Reads as entry-at-reads
+
+abbrev Inv-loop : tie.InvT-loop
+Inv-loop s count first left₀ at₀ offset₀ addend₀ left at offset addend = Walking s count first left at offset addend
+
+abbrev μ-loop : tie.MeasureT-loop
+μ-loop s count first left₀ at₀ offset₀ addend₀ left at offset addend = left
+
+-- src/reader.rt:87:5
+loop-holds : tie.Need-loop-holds Inv-loop μ-loop
+loop-holds c = search walks
+
+-- src/reader.rt:88:15
+entry-at-requires : tie.Need-entry-at-requires Inv-loop μ-loop
+entry-at-requires c κs = search walks
+
+-- src/reader.rt:89:28
+enum-known-why : tie.Need-enum-known-why Inv-loop μ-loop
+enum-known-why c = search walks
+
+-- src/reader.rt:90:17
+returns : tie.Need-returns Inv-loop μ-loop
+returns c = search walks
+
+-- src/reader.rt:92:27
+enum-known-o : tie.Need-enum-known-o Inv-loop μ-loop
+enum-known-o c = search walks
+
+-- src/reader.rt:96:17
+sub-left : tie.Need-sub-left Inv-loop μ-loop
+sub-left c = search walks
+
+-- src/reader.rt:87:5
+loop-less : tie.Need-loop-less Inv-loop μ-loop
+loop-less c = search walks
+
+-- src/reader.rt:87:5
+loop-again : tie.Need-loop-again Inv-loop μ-loop
+loop-again c = search walks
+
+-- src/reader.rt:101:9
+returns-2 : tie.Need-returns-2 Inv-loop μ-loop
+returns-2 c = search walks
+
+-- src/reader.rt:80:1
+returns-3 : tie.Need-returns-3 Inv-loop μ-loop
+returns-3 c = search walks
+
+pub walk-spec : {M : Type 1} → statement M
+walk-spec =
+    tie.close
+    (tie.spec
+    Inv-loop
+    μ-loop
+    loop-holds
+    entry-at-requires
+    enum-known-why
+    returns
+    enum-known-o
+    sub-left
+    loop-less
+    loop-again
+    returns-2
+    returns-3)

@@ -1,0 +1,92 @@
+-- APA1, the 64-bit packed table of offsets with addends: what its bytes say, and the bytes of its records.
+-- Assumes nothing.
+use Prim.Native.Nat.{ℕ}
+use mathlib.Core.List.{List, [], _∷_, _++_, map}
+use lib.IntN.{ℤ, pos, negsuc, _+ℤ_, _-ℤ_}
+use lib.ListN.{length}
+use Rattle.answer.specs.declared.Refusal.the-variants.{Identifier, Width}
+use Rattle.answer.specs.Outcome.{Outcome, pick, after}
+use Rattle.leb128.specs.Number.{readSigned, shortSigned}
+use Rattle.leb128.specs.declared.Signed.{Signed}
+use Rattle.leb128.specs.declared.Signed.the-variants.{Value, Refused}
+use Rattle.leb128.specs.declared.Unsigned.{Unsigned}
+use Rattle.leb128.specs.declared.Unsigned.the-variants.{Value as UValue, Refused as URefused}
+use Rattle.records.specs.Columns.{zipped}
+use Rattle.records.specs.Identifier.{startsWith}
+use Rattle.records.specs.Reading.{Step, one, none, counted}
+use Rattle.records.specs.Writing.{Put, bytes, puts}
+use Rattle.wrap.specs.Wrap.{residue, wrapped}
+pub mod Laws
+
+-- a record
+pub record Row : Type 0 where
+  pub offset : ℕ
+  pub addend : ℤ
+
+abbrev pub row : ℕ → ℤ → Row
+row o a = record { offset = o; addend = a }
+
+-- both sums start at 0
+abbrev pub start : Row
+start = row 0 (pos 0)
+
+-- "APA1"
+abbrev pub identifier : List ℕ
+identifier = 0x41 ∷ 0x50 ∷ 0x41 ∷ 0x31 ∷ []
+
+-- ---- reading
+
+-- the record whose differences are d and the number given, after the record before it: both sums wrap at 64 bits
+unfoldable pub secondOf : Row → ℤ → Signed → Step Row Row
+secondOf prev d (Value e past) =
+    let x : Row = row (residue 64 (pos (prev .offset) +ℤ d)) (wrapped 64 (prev .addend +ℤ e)) in
+    one x past x
+secondOf prev d (Refused why p) = none why p
+
+unfoldable pub firstOf : List ℕ → Row → Signed → Step Row Row
+firstOf s prev (Value d next) = secondOf prev d (readSigned 64 s next)
+firstOf s prev (Refused why p) = none why p
+
+-- the record at a place: two signed numbers of 64 bits, the offset's difference and the addend's
+unfoldable pub stepAt : List ℕ → ℕ → Row → Step Row Row
+stepAt s at prev = firstOf s prev (readSigned 64 s at)
+
+-- a count, which may not be negative: that is refused at its first byte
+unfoldable pub countOf : Signed → Unsigned
+countOf (Value (pos n) first) = UValue n first
+countOf (Value (negsuc n) first) = URefused Width (length identifier)
+countOf (Refused why p) = URefused why p
+
+-- the identifier and the count: a signed number of 64 bits
+unfoldable pub headAt : List ℕ → Unsigned
+headAt s = pick (startsWith identifier s) (countOf (readSigned 64 s (length identifier))) (URefused Identifier 0)
+
+-- the whole input: the identifier, the count, and that many records
+unfoldable pub decode : List ℕ → Outcome (List Row)
+decode s = counted (stepAt s) (length s) start (headAt s)
+
+-- ---- writing
+
+-- the records of two columns
+unfoldable pub rows : List ℕ → List ℤ → List Row
+rows os us = zipped (map row os) us
+
+-- a record after the one before it: its differences, each wrapped to a signed number of 64 bits, in their shortest form
+unfoldable pub entryBytes : Row → Row → List ℕ
+entryBytes prev x = shortSigned (wrapped 64 (pos (x .offset) -ℤ pos (prev .offset))) ++ shortSigned (wrapped 64 (x .addend -ℤ prev .addend))
+
+-- every record has bytes
+abbrev pub bytesOf : Row → Row → Put
+bytesOf prev x = bytes (entryBytes prev x)
+
+-- the record behind which the next one stands
+abbrev pub behind : Row → Row → Row
+behind prev x = x
+
+-- the identifier and the count of n records
+unfoldable pub headOf : ℕ → List ℕ
+headOf n = identifier ++ shortSigned (pos n)
+
+-- the table of a list
+unfoldable pub encode : List Row → Outcome (List ℕ)
+encode l = after (headOf (length l)) (puts bytesOf behind 0 start l)

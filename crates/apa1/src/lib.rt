@@ -1,0 +1,50 @@
+// APA1, the 64-bit packed table of offsets with addends: an identifier, a count, and for each record the differences to the one before it.
+ghost use Rattle.apa1.specs.Contract.{Reads, Writes};
+use answer::Answer;
+use answer::Found;
+use answer::INPUT_LIMIT;
+use answer::LIST_LIMIT;
+use answer::Refusal;
+
+mod reader;
+mod writer;
+
+// The records of a table, into a column of offsets and one of addends.
+pub fn read(table: &[u8], offsets: &mut [u64], addends: &mut [i64]) -> Answer
+    ensures { λ r. ⌜ Reads (now (table .entry)) (now (offsets .entry)) (now (addends .entry)) r (now (offsets .exit)) (now (addends .exit)) ⌝ }
+{
+    if offsets.len() != addends.len() {
+        return answer::refuse(Refusal::Columns, 0);
+    }
+    if INPUT_LIMIT < table.len() {
+        return answer::refuse(Refusal::Limit, 0);
+    }
+    match reader::scan(table) {
+        Found::Refused(why, place) => answer::refuse(why, place),
+        Found::Count(count) => {
+            if (offsets.len() as u64) < count {
+                return answer::short_of(count);
+            }
+            reader::fill(table, offsets, addends);
+            answer::accept(count)
+        }
+    }
+}
+
+// The table of a column of offsets and one of addends, at the front of the lent bytes.
+pub fn write(offsets: &[u64], addends: &[i64], table: &mut [u8]) -> Answer
+    ensures { λ r. ⌜ Writes (now (offsets .entry)) (now (addends .entry)) (now (table .entry)) r (now (table .exit)) ⌝ }
+{
+    if offsets.len() != addends.len() {
+        return answer::refuse(Refusal::Columns, 0);
+    }
+    if LIST_LIMIT < offsets.len() {
+        return answer::refuse(Refusal::Limit, 0);
+    }
+    let need = writer::size(offsets, addends);
+    if (table.len() as u64) < need {
+        return answer::short_of(need);
+    }
+    writer::fill(offsets, addends, table);
+    answer::accept(need)
+}

@@ -1,0 +1,21 @@
+use borrow.Author.Needs.{needs}
+use Rattle.relleb.specs.Contract.Laws.{evens}
+use Rattle.relleb.proofs.same_length.Statement.{statement}
+use Rattle.relleb.proofs.same_length.Tie as tie
+use Rattle.relleb.proofs.same_length.Reads as reads
+use Rattle.relleb.proofs.same_length.Lts as lts
+
+-- src/lib.rt:17:9
+returns : tie.Need-returns
+returns c = search evens
+
+-- src/lib.rt:20:9
+returns-2 : tie.Need-returns-2
+returns-2 c = search evens
+
+-- src/lib.rt:13:1
+returns-3 : tie.Need-returns-3
+returns-3 c = search evens
+
+pub same-length-spec : {M : Type 1} → statement M
+same-length-spec = tie.close (tie.spec returns returns-2 returns-3)

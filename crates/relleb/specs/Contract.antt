@@ -1,0 +1,87 @@
+-- What the calls promise.
+-- Assumes nothing.
+use Prim.Native.Nat.{ℕ, _≤_}
+use mathlib.Core.Path.{_≡_}
+use mathlib.Core.Bool.{Bool, false}
+use mathlib.Core.List.{List}
+use lib.Dec.{eqb, leb}
+use lib.IntN.{ℤ}
+use lib.ListN.{length}
+use Rattle.answer.specs.declared.Answer.{Answer}
+use Rattle.answer.specs.declared.Refusal.the-variants.{Class, Width, Limit, Columns}
+use Rattle.answer.specs.Outcome.{Outcome, refused, pick, inputLimit, listLimit, answerIn, filled}
+use Rattle.leb128.specs.Number.{IsWidth}
+use Rattle.leb128.specs.declared.Signed.{Signed}
+use Rattle.leb128.specs.declared.Signed.the-variants.{Value as SValue, Refused as SRefused}
+use Rattle.leb128.specs.declared.Unsigned.{Unsigned}
+use Rattle.leb128.specs.declared.Unsigned.the-variants.{Value as UValue, Refused as URefused}
+use Rattle.records.specs.Reading.{Step, one, none, Fitting}
+use Rattle.records.specs.Writing.{Put, bytes, Fits}
+use Rattle.word.specs.Class.{bitsOf, classOf}
+use Rattle.word.specs.declared.Named.{Named}
+use Rattle.word.specs.declared.Named.the-variants.{Is, Unknown}
+use Rattle.relleb.specs.declared.reader.Entry.{Entry}
+use Rattle.relleb.specs.declared.reader.Entry.the-variants.{Record, Refused}
+use Rattle.relleb.specs.Table.{Row, row, State, state, decode, rows, encode}
+pub mod Laws
+
+abbrev pub offsetIn : Row → ℕ
+offsetIn x = x .offset
+
+abbrev pub typeIn : Row → ℕ
+typeIn x = x .type
+
+abbrev pub symbolIn : Row → ℕ
+symbolIn x = x .symbol
+
+abbrev pub addendIn : Row → ℤ
+addendIn x = x .addend
+
+-- whether four columns have one length
+unfoldable pub even : ℕ → ℕ → ℕ → ℕ → Bool
+even a b c d = pick (eqb a b) (pick (eqb a c) (eqb a d) false) false
+
+-- the columns' lengths are one
+pub record Same (os ts ys : List ℕ) (us : List ℤ) : Type 0 where
+  pub types : length os ≡ length ts
+  pub symbols : length os ≡ length ys
+  pub addends : length os ≡ length us
+
+-- the outcome of a read into columns of so many elements
+unfoldable pub readIn : Named → List ℕ → ℕ → ℕ → ℕ → ℕ → Outcome (List Row)
+readIn Unknown s a b c d = refused Class 0
+readIn (Is k) s a b c d = pick (even a b c d) (pick (leb (length s) inputLimit) (decode (bitsOf k) s) (refused Limit 0)) (refused Columns 0)
+
+abbrev pub readOutcome : ℕ → List ℕ → List ℕ → List ℕ → List ℕ → List ℤ → Outcome (List Row)
+readOutcome class s os ts ys us = readIn (classOf class) s (length os) (length ts) (length ys) (length us)
+
+-- columns that held os, ts, ys and us hold os′, ts′, ys′ and us′: the fields of an outcome's records, or what they held
+pub record Filled (o : Outcome (List Row)) (os ts ys : List ℕ) (us : List ℤ) (os′ ts′ ys′ : List ℕ) (us′ : List ℤ) : Type 0 where
+  pub offsets : os′ ≡ filled offsetIn o os
+  pub types : ts′ ≡ filled typeIn o ts
+  pub symbols : ys′ ≡ filled symbolIn o ys
+  pub addends : us′ ≡ filled addendIn o us
+
+-- a read of the table s into columns that held os, ts, ys and us: it answers r, and the columns hold os′, ts′, ys′ and us′
+pub record Reads (class : ℕ) (s os ts ys : List ℕ) (us : List ℤ) (r : Answer) (os′ ts′ ys′ : List ℕ) (us′ : List ℤ) : Type 0 where
+  pub answer : r ≡ answerIn (length os) (readOutcome class s os ts ys us)
+  pub columns : Filled (readOutcome class s os ts ys us) os ts ys us os′ ts′ ys′ us′
+
+-- an accepted list for which the columns have room
+pub record Fillable (o : Outcome (List Row)) (os ts ys : List ℕ) (us : List ℤ) : Type 0 where
+  pub fitting : Fitting o (length os)
+  pub same : Same os ts ys us
+
+-- what the reader of one record says
+abbrev pub entryStep : Entry → Step State Row
+entryStep (Record o t y a past) = one (row o t y a) past (state o t a)
+entryStep (Refused why p) = none why p
+
+-- what is left of a record whose number is refused: its refusal. (A value is never asked.)
+abbrev pub entryWithout : Signed → Entry
+entryWithout (SRefused why p) = Refused why p
+entryWithout (SValue z next) = Refused Width next
+
+abbrev pub entryWithoutOffset : Unsigned → Entry
+entryWithoutOffset (URefused why p) = Refused why p
+entryWithoutOffset (UValue n next) = Refused Width next

@@ -1,0 +1,146 @@
+-- The cases of a call's outcome, and what each makes of the contract.
+-- Assumes nothing.
+use Prim.Native.Nat.{ℕ, _≤_, _<_}
+use mathlib.Core.Path.{_≡_, refl, sym, ap, _∙_}
+use mathlib.Core.Bool.{Bool, true, false, not}
+use mathlib.Core.List.{List}
+use native.Mathlib.Omega.{arith}
+use lib.Dec.{eqb}
+use lib.IntN.{ℤ}
+use lib.ListN.{length}
+use borrow.Author.Needs.{needs}
+use borrow.Author.Tests.{eq-eqb, ne-eqb, le-leb, lt-leb, eqb-true, not-true, not-false}
+use Rattle.answer.specs.declared.Answer.{Answer}
+use Rattle.answer.specs.declared.Refusal.{Refusal}
+use Rattle.answer.specs.declared.Refusal.the-variants.{Class, Limit, Columns}
+use Rattle.answer.specs.declared.Found.{Found}
+use Rattle.answer.specs.declared.Found.the-variants as found
+use Rattle.answer.specs.Outcome.{Outcome, accepted, refused, pick, inputLimit, listLimit, success, refusal, noRoom, foundOf}
+use Rattle.answer.specs.Outcome.Laws.{answer-fits, answer-long, answer-refused, filled-long, filled-refused, Counted, counted, not-found}
+use Rattle.leb128.specs.Number.{IsWidth}
+use Rattle.word.specs.Class.{bytesOf, bitsOf, classOf}
+use Rattle.word.specs.Class.Laws.{bytes-least, bytes-most}
+use Rattle.word.specs.declared.Class as class
+use Rattle.word.specs.declared.Named.{Named}
+use Rattle.word.specs.declared.Named.the-variants.{Is, Unknown}
+use Rattle.relleb.specs.Table.{Row, decode}
+use Rattle.relleb.specs.Contract.{offsetIn, typeIn, symbolIn, addendIn, even, Same, readIn, readOutcome, Filled, Fillable, Reads}
+
+-- ---- the class's width
+pub class-width : (k : class.Class) {w : ℕ} → w ≡ bitsOf k → IsWidth w
+class-width k e = (omega (arith, bytes-least k), omega (arith, bytes-most k))
+
+-- ---- columns of one length
+module _ (a b c d : ℕ) where
+  pub even-not : (a ≡ b → ⊥) → false ≡ even a b c d
+  unfolding even
+  even-not h = sym (rw (ne-eqb a b h))
+
+  pub even-not-2 : a ≡ b → (a ≡ c → ⊥) → false ≡ even a b c d
+  unfolding even
+  even-not-2 e h = sym (rw (eq-eqb a b e, ne-eqb a c h))
+
+  pub even-is : a ≡ b → a ≡ c → eqb a d ≡ even a b c d
+  unfolding even
+  even-is e f = sym (rw (eq-eqb a b e, eq-eqb a c f))
+
+pub ruleset evens = (even-not, even-not-2, even-is, needs)
+
+even-same : (os ts ys : List ℕ) (us : List ℤ) → even (length os) (length ts) (length ys) (length us) ≡ true → Same os ts ys us
+unfolding even
+even-same os ts ys us = go (eqb (length os) (length ts)) refl (eqb (length os) (length ys)) refl
+  where
+    go : (t : Bool) → eqb (length os) (length ts) ≡ t → (u : Bool) → eqb (length os) (length ys) ≡ u
+        → pick t (pick u (eqb (length os) (length us)) false) false ≡ true → Same os ts ys us
+    go true e true f g = record { types = eqb-true (length os) (length ts) e; symbols = eqb-true (length os) (length ys) f; addends = eqb-true (length os) (length us) g }
+    go true e false f g = let z : _≡_ {A = ℕ} 0 1 = cc in absurd (omega arith)
+    go false e u f g = let z : _≡_ {A = ℕ} 0 1 = cc in absurd (omega arith)
+
+pub same-even : (os ts ys : List ℕ) (us : List ℤ) → Same os ts ys us → even (length os) (length ts) (length ys) (length us) ≡ true
+unfolding even
+same-even os ts ys us s = rw (eq-eqb (length os) (length ts) (s .types), eq-eqb (length os) (length ys) (s .symbols), eq-eqb (length os) (length us) (s .addends))
+
+-- ---- reading
+module _ (s : List ℕ) (a b c d : ℕ) {n : Named} where
+  read-unknown : n ≡ Unknown → readIn n s a b c d ≡ refused Class 0
+  unfolding readIn
+  read-unknown e = rw e
+
+  module _ {k : class.Class} (e : n ≡ Is k) where
+    read-uneven : even a b c d ≡ false → readIn n s a b c d ≡ refused Columns 0
+    unfolding readIn
+    read-uneven h = rw (e, h)
+
+    read-huge : even a b c d ≡ true → inputLimit < length s → readIn n s a b c d ≡ refused Limit 0
+    unfolding readIn
+    read-huge h l = rw (e, h, lt-leb (length s) inputLimit l)
+
+    pub read-plain : even a b c d ≡ true → length s ≤ inputLimit → readIn n s a b c d ≡ decode (bitsOf k) s
+    unfolding readIn
+    read-plain h l = rw (e, h, le-leb (length s) inputLimit l)
+
+-- the columns stay as they are
+module _ {o : Outcome (List Row)} (os ts ys : List ℕ) (us : List ℤ) where
+  kept-refused : {why : Refusal} {p : ℕ} → o ≡ refused why p → Filled o os ts ys us os ts ys us
+  kept-refused e =
+      record {
+        offsets = sym (filled-refused offsetIn os e);
+        types = sym (filled-refused typeIn ts e);
+        symbols = sym (filled-refused symbolIn ys e);
+        addends = sym (filled-refused addendIn us e);
+      }
+
+  kept-long : {k : ℕ} → Counted o k → length os < k → Same os ts ys us → Filled o os ts ys us os ts ys us
+  kept-long c h s =
+      record {
+        offsets = sym (filled-long offsetIn os c h);
+        types = sym (filled-long typeIn ts c (omega (arith, s .types)));
+        symbols = sym (filled-long symbolIn ys c (omega (arith, s .symbols)));
+        addends = sym (filled-long addendIn us c (omega (arith, s .addends)));
+      }
+
+module _ (size : ℕ) (s os ts ys : List ℕ) (us : List ℤ) {n : Named} (named : n ≡ classOf size) {r : Answer} where
+  refuses : {why : Refusal} {p : ℕ} → r ≡ refusal why p → readIn n s (length os) (length ts) (length ys) (length us) ≡ refused why p → Reads size s os ts ys us r os ts ys us
+  refuses a e =
+      let f = ap (λ (m : Named). readIn m s (length os) (length ts) (length ys) (length us)) (sym named) ∙ e in
+      record { answer = a ∙ sym (answer-refused (length os) f); columns = kept-refused os ts ys us f }
+
+  pub reads-unknown : r ≡ refusal Class 0 → n ≡ Unknown → Reads size s os ts ys us r os ts ys us
+  reads-unknown a e = refuses a (read-unknown s (length os) (length ts) (length ys) (length us) e)
+
+  module _ {k : class.Class} (is : n ≡ Is k) {t : Bool} (test : t ≡ even (length os) (length ts) (length ys) (length us)) where
+    pub reads-uneven : r ≡ refusal Columns 0 → not t ≡ true → Reads size s os ts ys us r os ts ys us
+    reads-uneven a h = refuses a (read-uneven s (length os) (length ts) (length ys) (length us) is (sym test ∙ not-true t h))
+
+    pub reads-huge : r ≡ refusal Limit 0 → not t ≡ false → inputLimit < length s → Reads size s os ts ys us r os ts ys us
+    reads-huge a h l = refuses a (read-huge s (length os) (length ts) (length ys) (length us) is (sym test ∙ not-false t h) l)
+
+    module _ {w : ℕ} {f : Found} (e : f ≡ foundOf (decode w s)) (wide : w ≡ bitsOf k) (h : not t ≡ false) (short : length s ≤ inputLimit) where
+      pub reads-not : {why : Refusal} {p : ℕ} → f ≡ found.Refused why p → r ≡ refusal why p → Reads size s os ts ys us r os ts ys us
+      reads-not g a =
+          refuses a (read-plain s (length os) (length ts) (length ys) (length us) is (sym test ∙ not-false t h) short ∙ ap (λ (m : ℕ). decode m s) (sym wide) ∙ not-found (decode w s) (sym e ∙ g))
+
+      module _ {m : ℕ} (g : f ≡ found.Count m) where
+        pub reads-long : r ≡ noRoom m → length os < m → Reads size s os ts ys us r os ts ys us
+        reads-long a l =
+            let c = counted (decode w s) (sym e ∙ g) in
+            let v = sym test ∙ not-false t h in
+            let p : readOutcome size s os ts ys us ≡ decode w s =
+            ap (λ (m : Named). readIn m s (length os) (length ts) (length ys) (length us)) (sym named)
+            ∙ read-plain s (length os) (length ts) (length ys) (length us) is v short ∙ ap (λ (m : ℕ). decode m s) (sym wide) in
+            record { answer = a ∙ rw p (sym (answer-long (length os) c l)); columns = rw p (kept-long os ts ys us c l (even-same os ts ys us v)) }
+
+        pub reads-full : {os′ ts′ ys′ : List ℕ} {us′ : List ℤ} → r ≡ success m → m ≤ length os → Filled (decode w s) os ts ys us os′ ts′ ys′ us′ → Reads size s os ts ys us r os′ ts′ ys′ us′
+        reads-full a l d =
+            let p : readOutcome size s os ts ys us ≡ decode w s =
+            ap (λ (m : Named). readIn m s (length os) (length ts) (length ys) (length us)) (sym named)
+            ∙ read-plain s (length os) (length ts) (length ys) (length us) is (sym test ∙ not-false t h) short ∙ ap (λ (m : ℕ). decode m s) (sym wide) in
+            record { answer = a ∙ rw p (sym (answer-fits (length os) (counted (decode w s) (sym e ∙ g)) l)); columns = rw p d }
+
+pub fillable : (w : ℕ) (s os ts ys : List ℕ) (us : List ℤ) {f : Found} {m : ℕ} {t : Bool} → f ≡ foundOf (decode w s) → f ≡ found.Count m
+    → t ≡ even (length os) (length ts) (length ys) (length us) → not t ≡ false → m ≤ length os → Fillable (decode w s) os ts ys us
+fillable w s os ts ys us {t = t} e g test h l =
+    let c = counted (decode w s) (sym e ∙ g) in
+    record { fitting = record { list = c .list; is = c .is; fits = omega (arith, c .long) }; same = even-same os ts ys us (sym test ∙ not-false t h) }
+
+pub ruleset reading = (class-width, reads-unknown, reads-uneven, reads-huge, reads-not, reads-long, fillable, reads-full, needs)

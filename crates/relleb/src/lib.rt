@@ -1,0 +1,58 @@
+// RELLEB, the packed table of whole relocation records: a count, and for each record its differences to the one before it.
+ghost use mathlib.Core.Path.{_≡_};
+ghost use Rattle.relleb.specs.Contract.{even, Reads};
+use answer::Answer;
+use answer::Found;
+use answer::INPUT_LIMIT;
+use answer::Refusal;
+use word::Class;
+use word::Named;
+
+mod reader;
+
+// Whether four columns have one length.
+fn same_length(offsets: usize, types: usize, symbols: usize, addends: usize) -> bool
+    ensures { λ r. ⌜ r ≡ even offsets types symbols addends ⌝ }
+{
+    if offsets != types {
+        return false;
+    }
+    if offsets != symbols {
+        return false;
+    }
+    offsets == addends
+}
+
+// The records of a table, into a column for each field.
+pub fn read(
+    class: u32,
+    table: &[u8],
+    offsets: &mut [u64],
+    types: &mut [u32],
+    symbols: &mut [u32],
+    addends: &mut [i64],
+) -> Answer
+    ensures { λ r. ⌜ Reads class (now (table .entry)) (now (offsets .entry)) (now (types .entry)) (now (symbols .entry)) (now (addends .entry)) r (now (offsets .exit)) (now (types .exit)) (now (symbols .exit)) (now (addends .exit)) ⌝ }
+{
+    let named = Class::named(class);
+    let Named::Is(kind) = named else {
+        return answer::refuse(Refusal::Class, 0);
+    };
+    if !same_length(offsets.len(), types.len(), symbols.len(), addends.len()) {
+        return answer::refuse(Refusal::Columns, 0);
+    }
+    if INPUT_LIMIT < table.len() {
+        return answer::refuse(Refusal::Limit, 0);
+    }
+    let width = kind.bits();
+    match reader::scan(table, width) {
+        Found::Refused(why, place) => answer::refuse(why, place),
+        Found::Count(count) => {
+            if (offsets.len() as u64) < count {
+                return answer::short_of(count);
+            }
+            reader::fill(table, width, offsets, types, symbols, addends);
+            answer::accept(count)
+        }
+    }
+}
