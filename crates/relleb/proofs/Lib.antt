@@ -1,2 +1,4 @@
 pub mod Entry
 pub mod Pass
+pub mod Bytes
+pub mod Put
