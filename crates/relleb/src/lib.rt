@@ -60,7 +60,14 @@ pub fn read(
 }
 
 // The table of a column for each field, at the front of the lent bytes.
-pub fn write(class: u32, offsets: &[u64], types: &[u32], symbols: &[u32], addends: &[i64], table: &mut [u8]) -> Answer
+pub fn write(
+    class: u32,
+    offsets: &[u64],
+    types: &[u32],
+    symbols: &[u32],
+    addends: &[i64],
+    table: &mut [u8],
+) -> Answer
     ensures { λ r. ⌜ Writes class (now (offsets .entry)) (now (types .entry)) (now (symbols .entry)) (now (addends .entry)) (now (table .entry)) r (now (table .exit)) ⌝ }
 {
     let named = Class::named(class);

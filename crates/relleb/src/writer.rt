@@ -29,7 +29,16 @@ fn field_of(symbol: u32, same: bool) -> i64
 }
 
 // The numbers of a record, after one with this offset, this type and this addend.
-fn fields_of(width: u32, offset: u64, kind: u32, symbol: u32, addend: i64, before: u64, last: u32, base: i64) -> Fields
+fn fields_of(
+    width: u32,
+    offset: u64,
+    kind: u32,
+    symbol: u32,
+    addend: i64,
+    before: u64,
+    last: u32,
+    base: i64,
+) -> Fields
     requires { ⌜ IsWidth width ⌝ }
     ensures { λ r. ⌜ fieldsPut r ≡ putOf width (state before last base) (row offset kind symbol addend) ⌝ }
 {
@@ -117,7 +126,15 @@ pub fn size(width: u32, offsets: &[u64], types: &[u32], symbols: &[u32], addends
 }
 
 // The records' bytes from a place on.
-fn put_all(width: u32, offsets: &[u64], types: &[u32], symbols: &[u32], addends: &[i64], table: &mut [u8], first: usize)
+fn put_all(
+    width: u32,
+    offsets: &[u64],
+    types: &[u32],
+    symbols: &[u32],
+    addends: &[i64],
+    table: &mut [u8],
+    first: usize,
+)
     requires { ⌜ (IsWidth width) × (Puttable (puts (putOf width) behind 0 start (rows (now offsets) (now types) (now symbols) (now addends))) (now offsets) (now types) (now symbols) (now addends) (now table) first) ⌝ }
     ensures { λ _. ⌜ Puts (puts (putOf width) behind 0 start (rows (now (offsets .entry)) (now (types .entry)) (now (symbols .entry)) (now (addends .entry)))) (now (table .entry)) (now (table .exit)) first ⌝ }
 {
@@ -148,7 +165,14 @@ fn put_all(width: u32, offsets: &[u64], types: &[u32], symbols: &[u32], addends:
 }
 
 // The whole table, at the front of a buffer with room for it.
-pub fn fill(width: u32, offsets: &[u64], types: &[u32], symbols: &[u32], addends: &[i64], table: &mut [u8])
+pub fn fill(
+    width: u32,
+    offsets: &[u64],
+    types: &[u32],
+    symbols: &[u32],
+    addends: &[i64],
+    table: &mut [u8],
+)
     requires { ⌜ (IsWidth width) × (Puttable (encode width (rows (now offsets) (now types) (now symbols) (now addends))) (now offsets) (now types) (now symbols) (now addends) (now table) 0) ⌝ }
     ensures { λ _. ⌜ Puts (encode width (rows (now (offsets .entry)) (now (types .entry)) (now (symbols .entry)) (now (addends .entry)))) (now (table .entry)) (now (table .exit)) 0 ⌝ }
 {
