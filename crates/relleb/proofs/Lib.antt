@@ -2,3 +2,4 @@ pub mod Entry
 pub mod Pass
 pub mod Bytes
 pub mod Put
+pub mod Laws

@@ -48,7 +48,7 @@ module _ (a b c d : ℕ) where
 
 pub ruleset evens = (even-not, even-not-2, even-is, needs)
 
-even-same : (os ts ys : List ℕ) (us : List ℤ) → even (length os) (length ts) (length ys) (length us) ≡ true → Same os ts ys us
+pub even-same : (os ts ys : List ℕ) (us : List ℤ) → even (length os) (length ts) (length ys) (length us) ≡ true → Same os ts ys us
 unfolding even
 even-same os ts ys us = go (eqb (length os) (length ts)) refl (eqb (length os) (length ys)) refl
   where
