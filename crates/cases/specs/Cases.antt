@@ -3,21 +3,32 @@
 use Prim.Native.Nat.{ℕ}
 use mathlib.Core.Path.{_≡_, refl}
 use mathlib.Core.List.{List, [], _∷_}
-use lib.IntN.{ℤ, negsuc}
+use lib.IntN.{ℤ, pos, negsuc}
 use lib.ListN.{length}
 use Rattle.leb128.specs.Number.{raw, readUnsigned, signed, readSigned, short, shortBy, shortUnsigned, shortSigned}
 use Rattle.leb128.specs.declared.Unsigned.the-variants.{Value as UValue}
 use Rattle.leb128.specs.declared.Signed.the-variants.{Value as SValue}
+use Rattle.answer.specs.Outcome.{accepted, before, after}
+use Rattle.records.specs.Identifier.{startsWith}
+use Rattle.records.specs.Reading.{stepThen, records, counted}
+use Rattle.records.specs.Writing.{putThen, puts}
+use Rattle.wrap.specs.Wrap.{residue, signedIn, same}
+use Rattle.apa1.specs.Table as apa1
+use Rattle.relleb.specs.Table as relleb
 
 -- a row: bytes and what they stand for, to be read and to be written
 pub data Case : Type 0 where
   unsignedNumber : ℕ → List ℕ → ℕ → Case
   signedNumber : ℕ → List ℕ → ℤ → Case
+  apa1Table : List ℕ → List apa1.Row → Case
+  rellebTable : ℕ → List ℕ → List relleb.Row → Case
 
--- what a row says: the bytes, at a width, read as the value, and are its shortest form
+-- what a row says: the bytes, at a width, read as the value, and are its shortest form; a table's bytes decode to the list, and are its table
 pub Holds : Case → Type 0
 Holds (unsignedNumber width bytes v) = (readUnsigned width bytes 0 ≡ UValue v (length bytes)) × (shortUnsigned v ≡ bytes)
 Holds (signedNumber width bytes z) = (readSigned width bytes 0 ≡ SValue z (length bytes)) × (shortSigned z ≡ bytes)
+Holds (apa1Table bytes l) = (apa1.decode bytes ≡ accepted l) × (apa1.encode l ≡ accepted bytes)
+Holds (rellebTable width bytes l) = (relleb.decode width bytes ≡ accepted l) × (relleb.encode width l ≡ accepted bytes)
 
 -- every row of a table
 pub Each : List Case → Type 0
@@ -30,8 +41,12 @@ table =
     unsignedNumber 32 (0xE5 ∷ 0x8E ∷ 0x26 ∷ []) 624485
     -- B: negsuc n is - (n + 1)
     ∷ signedNumber 32 (0xC0 ∷ 0xBB ∷ 0x78 ∷ []) (negsuc 123455)
+    -- I
+    ∷ apa1Table (0x41 ∷ 0x50 ∷ 0x41 ∷ 0x31 ∷ 0x02 ∷ 0x80 ∷ 0x20 ∷ 0x10 ∷ 0x08 ∷ 0x08 ∷ []) (apa1.row 0x1000 (pos 16) ∷ apa1.row 0x1008 (pos 24) ∷ [])
+    -- P
+    ∷ rellebTable 64 (0x02 ∷ 0x10 ∷ 0x81 ∷ 0x02 ∷ 0x7C ∷ 0x7C ∷ 0x08 ∷ 0x00 ∷ 0x03 ∷ []) (relleb.row 16 257 3 (negsuc 3) ∷ relleb.row 24 257 3 (negsuc 3) ∷ [])
     ∷ []
 
 pub claim : Each table
-unfolding Each Holds table readUnsigned readSigned raw signed short shortBy
-claim = ((refl, refl), ((refl, refl), tt))
+unfolding Each Holds table readUnsigned readSigned raw signed short shortBy before after startsWith stepThen records counted putThen puts residue signedIn same apa1.secondOf apa1.firstOf apa1.stepAt apa1.countOf apa1.headAt apa1.decode apa1.entryBytes apa1.headOf apa1.encode relleb.addendOf relleb.symbolOf relleb.typeOf relleb.offsetOf relleb.stepAt relleb.decode relleb.fieldOf relleb.symbolBytes relleb.typeBytes relleb.fieldBytes relleb.entryBytes relleb.putOf relleb.encode
+claim = ((refl, refl), ((refl, refl), ((refl, refl), ((refl, refl), tt))))

@@ -1,7 +1,9 @@
 // Runs worked tables and published examples, and prints what the calls answered.
 mod leb;
+mod tables;
 mod text;
 
 fn main() {
     leb::run();
+    tables::run();
 }
