@@ -4,12 +4,12 @@ use Prim.Native.Nat.{ℕ, suc, _+_, _*_, _^_, _≤_, _<_}
 use mathlib.Core.Path.{_≡_}
 use mathlib.Core.List.{List, [], _∷_, _++_}
 use lib.Dec.{leb}
-use lib.ListN.{length, drop}
+use lib.ListN.{length, drop, getD}
 use lib.Seq.{sets}
 use Rattle.answer.specs.declared.Refusal.the-variants.{Identifier, Width, Space}
 use Rattle.answer.specs.declared.Found.{Found}
 use Rattle.answer.specs.declared.Found.the-variants as found
-use Rattle.answer.specs.Outcome.{Outcome, accepted, refused, pick, inputLimit, filled}
+use Rattle.answer.specs.Outcome.{Outcome, accepted, refused, pick, inputLimit, listLimit, filled}
 use Rattle.leb128.specs.Number.{readUnsigned}
 use Rattle.leb128.specs.declared.Unsigned.{Unsigned}
 use Rattle.leb128.specs.declared.Unsigned.the-variants as unsigned
@@ -20,7 +20,9 @@ use Rattle.apr1.specs.declared.reader.Entry.the-variants as entry
 use Rattle.apr1.specs.declared.reader.Head.{Head}
 use Rattle.apr1.specs.declared.reader.Head.the-variants.{Table, Refused}
 use Rattle.apr1.specs.Contract.{itself}
-use Rattle.apr1.specs.Table.{identifier, last, pair, Pair, run, stepAt, joined}
+use Rattle.apr1.specs.Table.{identifier, last, pair, Pair, run, stepAt, joined, pairsFrom, pairBytes, tableOf, encode}
+use Rattle.apr1.specs.declared.writer.Sized.{Sized}
+use Rattle.apr1.specs.declared.writer.Sized.the-variants as sized
 
 -- what the reader of one pair says
 abbrev pub entryStep : Entry → Step ℕ Pair
@@ -95,3 +97,71 @@ Fillable o column = Fitting o (length column)
 -- a column that holds the offsets of an outcome, or what it held
 abbrev pub Filled : Outcome (List ℕ) → List ℕ → List ℕ → Type 0
 Filled o old new = new ≡ filled itself o old
+
+-- ---- writing
+
+-- offsets inside the space that rise from lo on
+abbrev pub Rising : ℕ → List ℕ → Type 0
+Rising lo [] = Unit {0}
+Rising lo (x ∷ l) = (lo ≤ x) × (x ≤ last) × Rising (suc x) l
+
+-- a run may be counted: its first offset and its gap are inside the space
+pub record Countable (l : List ℕ) (i y d : ℕ) : Type 0 where
+  pub within : i ≤ length l
+  pub low : y ≤ last
+  pub step : d ≤ last
+
+-- the offsets behind x do not go on with the gap d
+abbrev pub Stops : ℕ → ℕ → List ℕ → Type 0
+Stops x d [] = Unit {0}
+Stops x d (z ∷ l) = z ≤ last → z ≡ x + d → ⊥
+
+-- from index i on, k offsets follow y, each d above the one before, and no more
+pub record Run (l : List ℕ) (i y d k : ℕ) : Type 0 where
+  pub within : i + k ≤ length l
+  pub here : drop i l ≡ run y k d ++ drop (i + k) l
+  pub low : y + k * d ≤ last
+  pub stop : Stops (y + k * d) d (drop (i + k) l)
+
+-- the first offset of a list, and the pairs and the bytes of its table
+abbrev pub headIn : List ℕ → ℕ
+headIn l = getD l 0 0
+
+abbrev pub pairsIn : List ℕ → List Pair
+pairsIn l = pairsFrom (headIn l) 0 0 (drop 1 l)
+
+abbrev pub tableIn : List ℕ → List ℕ
+tableIn l = tableOf (headIn l) (drop 1 l)
+
+-- a list that is neither empty nor too long
+pub record Sizable (l : List ℕ) : Type 0 where
+  pub some : 0 < length l
+  pub few : length l ≤ listLimit
+
+-- what the first pass finds
+abbrev pub Sizes : List ℕ → Sized → Type 0
+Sizes l (sized.Table n b) = (n ≡ length (pairsIn l)) × (b ≡ length (tableIn l)) × Rising 0 l
+Sizes l (sized.Refused why p) = encode l ≡ refused why p
+
+-- a list that rises, and room for its pairs at a place
+pub record Puttable (l table : List ℕ) (at : ℕ) : Type 0 where
+  pub some : 0 < length l
+  pub few : length l ≤ listLimit
+  pub rising : Rising 0 l
+  pub room : at + length (pairBytes (pairsIn l)) ≤ length table
+
+-- the pairs' bytes stand at a place
+abbrev pub PairsPut : List ℕ → List ℕ → List ℕ → ℕ → Type 0
+PairsPut l old new at = new ≡ sets old at (pairBytes (pairsIn l))
+
+-- a list that rises, the number of its pairs, and room for its table
+pub record Encodable (l table : List ℕ) (n : ℕ) : Type 0 where
+  pub some : 0 < length l
+  pub few : length l ≤ listLimit
+  pub rising : Rising 0 l
+  pub pairs : n ≡ length (pairsIn l)
+  pub room : length (tableIn l) ≤ length table
+
+-- the table stands at the front
+abbrev pub TablePut : List ℕ → List ℕ → List ℕ → Type 0
+TablePut l old new = new ≡ sets old 0 (tableIn l)

@@ -97,10 +97,14 @@ pairsFrom x d c (y ∷ l) =
     let other : List Pair = pairThen c d (pairsFrom y (y - x) 1 l) in
     pick (eqb (y - x) d) same other
 
--- the bytes of pairs, each number in its shortest form
+-- the bytes of a pair, each number in its shortest form
+unfoldable pub onePair : Pair → List ℕ
+onePair p = shortUnsigned (p .count) ++ shortUnsigned (p .gap)
+
+-- the bytes of pairs
 unfoldable pub pairBytes : List Pair → List ℕ
 pairBytes [] = []
-pairBytes (p ∷ ps) = (shortUnsigned (p .count) ++ shortUnsigned (p .gap)) ++ pairBytes ps
+pairBytes (p ∷ ps) = onePair p ++ pairBytes ps
 
 -- the identifier, N and A
 unfoldable pub headOf : ℕ → ℕ → List ℕ

@@ -6,6 +6,7 @@ use answer::INPUT_LIMIT;
 use answer::Refusal;
 
 mod reader;
+mod writer;
 
 // The offsets of a table, into a column.
 pub fn read(table: &[u8], offsets: &mut [u64]) -> Answer

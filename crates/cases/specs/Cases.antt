@@ -3,9 +3,8 @@
 use Prim.Native.Nat.{ℕ}
 use mathlib.Core.Path.{_≡_, refl}
 use mathlib.Core.List.{List, [], _∷_}
-use lib.IntN.{ℤ, negsuc}
+use lib.IntN.{ℤ, pos, negsuc}
 use lib.ListN.{length}
-use Rattle.answer.specs.Outcome.{accepted, after}
 use Rattle.word.specs.declared.Class.{Class}
 use Rattle.word.specs.declared.Class.the-variants.{Four, Eight}
 use Rattle.word.specs.declared.Named.the-variants.{Is}
@@ -17,6 +16,14 @@ use Rattle.relr.specs.Contract.{changed, imageAfter}
 use Rattle.leb128.specs.Number.{raw, readUnsigned, signed, readSigned, short, shortBy, shortUnsigned, shortSigned}
 use Rattle.leb128.specs.declared.Unsigned.the-variants.{Value as UValue}
 use Rattle.leb128.specs.declared.Signed.the-variants.{Value as SValue}
+use Rattle.answer.specs.Outcome.{accepted, before, after}
+use Rattle.records.specs.Identifier.{startsWith}
+use Rattle.records.specs.Reading.{stepThen, records, counted}
+use Rattle.records.specs.Writing.{putThen, puts}
+use Rattle.wrap.specs.Wrap.{residue, signedIn, same}
+use Rattle.apr1.specs.Table as apr1
+use Rattle.apa1.specs.Table as apa1
+use Rattle.relleb.specs.Table as relleb
 
 -- a row: what is written and what it stands for, to be read and to be written; or an image before and after a table is applied
 pub data Case : Type 0 where
@@ -24,14 +31,20 @@ pub data Case : Type 0 where
   signedNumber : ℕ → List ℕ → ℤ → Case
   relrTable : Class → List ℕ → List ℕ → Case
   relrApplied : Class → List ℕ → ℕ → List ℕ → List ℕ → Case
+  apr1Table : List ℕ → List ℕ → Case
+  apa1Table : List ℕ → List apa1.Row → Case
+  rellebTable : ℕ → List ℕ → List relleb.Row → Case
 
--- what a row says: the bytes, at a width, read as the value, and are its shortest form; the offsets and the words are each other's; a table
--- of these words and a base make of the one image the other
+-- what a row says: the bytes, at a width, read as the value, and are its shortest form; a table's bytes or words decode to the list, and are
+-- its table; a table of these words and a base make of the one image the other
 pub Holds : Case → Type 0
 Holds (unsignedNumber width bytes v) = (readUnsigned width bytes 0 ≡ UValue v (length bytes)) × (shortUnsigned v ≡ bytes)
 Holds (signedNumber width bytes z) = (readSigned width bytes 0 ≡ SValue z (length bytes)) × (shortSigned z ≡ bytes)
 Holds (relrTable k offsets words) = (decode k (bytesOfWords (bytesOf k) words) ≡ accepted offsets) × (encode k offsets ≡ accepted (bytesOfWords (bytesOf k) words))
 Holds (relrApplied k words base old new) = imageAfter (Is k) (bytesOfWords (bytesOf k) words) base old ≡ new
+Holds (apr1Table bytes l) = (apr1.decode bytes ≡ accepted l) × (apr1.encode l ≡ accepted bytes)
+Holds (apa1Table bytes l) = (apa1.decode bytes ≡ accepted l) × (apa1.encode l ≡ accepted bytes)
+Holds (rellebTable width bytes l) = (relleb.decode width bytes ≡ accepted l) × (relleb.encode width l ≡ accepted bytes)
 
 -- every row of a table
 pub Each : List Case → Type 0
@@ -57,12 +70,24 @@ table =
     ∷ relrTable Eight (0x10 ∷ 0x14 ∷ 0x18 ∷ 0x20 ∷ []) (0x10 ∷ 0x14 ∷ 0x18 ∷ 0x3 ∷ [])
     -- J
     ∷ relrApplied Eight (0 ∷ []) 1 (0xFF ∷ 0xFF ∷ 0xFF ∷ 0xFF ∷ 0xFF ∷ 0xFF ∷ 0xFF ∷ 0xFF ∷ []) (0 ∷ 0 ∷ 0 ∷ 0 ∷ 0 ∷ 0 ∷ 0 ∷ 0 ∷ [])
+    -- H
+    ∷ apr1Table (0x41 ∷ 0x50 ∷ 0x52 ∷ 0x31 ∷ 0x02 ∷ 0x80 ∷ 0x20 ∷ 0x02 ∷ 0x04 ∷ 0x01 ∷ 0x08 ∷ []) (0x1000 ∷ 0x1004 ∷ 0x1008 ∷ 0x1010 ∷ [])
+    -- I
+    ∷ apa1Table (0x41 ∷ 0x50 ∷ 0x41 ∷ 0x31 ∷ 0x02 ∷ 0x80 ∷ 0x20 ∷ 0x10 ∷ 0x08 ∷ 0x08 ∷ []) (apa1.row 0x1000 (pos 16) ∷ apa1.row 0x1008 (pos 24) ∷ [])
+    -- P
+    ∷ rellebTable 64 (0x02 ∷ 0x10 ∷ 0x81 ∷ 0x02 ∷ 0x7C ∷ 0x7C ∷ 0x08 ∷ 0x00 ∷ 0x03 ∷ []) (relleb.row 16 257 3 (negsuc 3) ∷ relleb.row 24 257 3 (negsuc 3) ∷ [])
     ∷ []
 
 pub claim : Each table
-unfolding Each Holds table readUnsigned readSigned raw signed short shortBy
-    valueOf bytesIn wordAt withWord firstWords wordsOf bytesOfWords after
+unfolding Each Holds table readUnsigned readSigned raw signed short shortBy before after
+    valueOf bytesIn wordAt withWord firstWords wordsOf bytesOfWords
     relr.marked relr.fit relr.anchored relr.read relr.falls relr.bit relr.word relr.first relr.write relr.table
     decode checked encode leading within targets added patched changed imageAfter
+    startsWith stepThen records counted putThen puts residue signedIn same
+    apr1.run apr1.expand apr1.secondOf apr1.firstOf apr1.stepAt apr1.joined apr1.withFirst apr1.withCount apr1.decode apr1.pairThen
+    apr1.pairsFrom apr1.onePair apr1.pairBytes apr1.headOf apr1.tableOf apr1.checked apr1.encode
+    apa1.secondOf apa1.firstOf apa1.stepAt apa1.countOf apa1.headAt apa1.decode apa1.entryBytes apa1.headOf apa1.encode
+    relleb.addendOf relleb.symbolOf relleb.typeOf relleb.offsetOf relleb.stepAt relleb.decode relleb.fieldOf relleb.symbolBytes
+    relleb.typeBytes relleb.fieldBytes relleb.entryBytes relleb.putOf relleb.encode
 claim =
-    ((refl, refl), ((refl, refl), ((refl, refl), ((refl, refl), ((refl, refl), ((refl, refl), ((refl, refl), ((refl, refl), (refl, tt)))))))))
+    ((refl, refl), ((refl, refl), ((refl, refl), ((refl, refl), ((refl, refl), ((refl, refl), ((refl, refl), ((refl, refl), (refl, ((refl, refl), ((refl, refl), ((refl, refl), tt))))))))))))

@@ -1,2 +1,5 @@
 pub mod Entry
 pub mod Pass
+pub mod Bytes
+pub mod Put
+pub mod Laws

@@ -17,12 +17,15 @@ use Rattle.leb128.specs.declared.Unsigned.{Unsigned}
 use Rattle.leb128.specs.declared.Unsigned.the-variants.{Value as UValue, Refused as URefused}
 use Rattle.records.specs.Reading.{Step, one, none, Fitting}
 use Rattle.records.specs.Writing.{Put, bytes, Fits}
+use Rattle.records.specs.Writing as Writing
 use Rattle.word.specs.Class.{bitsOf, classOf}
 use Rattle.word.specs.declared.Named.{Named}
 use Rattle.word.specs.declared.Named.the-variants.{Is, Unknown}
 use Rattle.relleb.specs.declared.reader.Entry.{Entry}
 use Rattle.relleb.specs.declared.reader.Entry.the-variants.{Record, Refused}
-use Rattle.relleb.specs.Table.{Row, row, State, state, decode, rows, encode}
+use Rattle.relleb.specs.declared.writer.Fields.{Fields}
+use Rattle.relleb.specs.declared.writer.Fields.the-variants.{Numbers, Refused as NoFields}
+use Rattle.relleb.specs.Table.{Row, row, State, state, decode, rows, fieldBytes, encode}
 pub mod Laws
 
 abbrev pub offsetIn : Row → ℕ
@@ -71,6 +74,40 @@ pub record Reads (class : ℕ) (s os ts ys : List ℕ) (us : List ℤ) (r : Answ
 pub record Fillable (o : Outcome (List Row)) (os ts ys : List ℕ) (us : List ℤ) : Type 0 where
   pub fitting : Fitting o (length os)
   pub same : Same os ts ys us
+
+-- the outcome of a write of four columns
+unfoldable pub writeIn : Named → List ℕ → List ℕ → List ℕ → List ℤ → Outcome (List ℕ)
+writeIn Unknown os ts ys us = refused Class 0
+writeIn (Is k) os ts ys us =
+    pick (even (length os) (length ts) (length ys) (length us)) (pick (leb (length os) listLimit) (encode (bitsOf k) (rows os ts ys us)) (refused Limit 0)) (refused Columns 0)
+
+abbrev pub writeOutcome : ℕ → List ℕ → List ℕ → List ℕ → List ℤ → Outcome (List ℕ)
+writeOutcome class os ts ys us = writeIn (classOf class) os ts ys us
+
+-- a write of four columns into bytes that held old: it answers r, and the bytes are new
+pub record Writes (class : ℕ) (os ts ys : List ℕ) (us : List ℤ) (old : List ℕ) (r : Answer) (new : List ℕ) : Type 0 where
+  pub answer : r ≡ answerIn (length old) (writeOutcome class os ts ys us)
+  pub table : new ≡ filled (λ (b : ℕ). b) (writeOutcome class os ts ys us) old
+
+-- four columns of a list within its limit
+pub record Listed (os ts ys : List ℕ) (us : List ℤ) : Type 0 where
+  pub same : Same os ts ys us
+  pub few : length os ≤ listLimit
+
+-- bytes that four columns have, and room for them at a place
+pub record Puttable (o : Outcome (List ℕ)) (os ts ys : List ℕ) (us : List ℤ) (buffer : List ℕ) (at : ℕ) : Type 0 where
+  pub same : Same os ts ys us
+  pub fits : Fits o buffer at
+
+-- r is how many bytes four numbers take; each takes at most ten
+pub record Measured (r : ℕ) (b : List ℕ) : Type 0 where
+  pub is : r ≡ length b
+  pub few : r ≤ 40
+
+-- the bytes of a record's numbers
+abbrev pub fieldsPut : Fields → Put
+fieldsPut (Numbers d t f a) = bytes (fieldBytes d t f a)
+fieldsPut (NoFields why) = Writing.none why
 
 -- what the reader of one record says
 abbrev pub entryStep : Entry → Step State Row

@@ -93,9 +93,15 @@ abbrev pub changeBytes : ℤ → ℤ → List ℕ
 changeBytes (pos y) a = []
 changeBytes (negsuc y) a = shortSigned a
 
--- the numbers of a record: the differences d, t and a and the symbol field f, in their shortest form
+-- the numbers of a record, from the symbol field f, from the type's difference t and from the offset's difference d on, in their shortest form
+unfoldable pub symbolBytes : ℤ → ℤ → List ℕ
+symbolBytes f a = shortSigned f ++ changeBytes f a
+
+unfoldable pub typeBytes : ℤ → ℤ → ℤ → List ℕ
+typeBytes t f a = shortSigned t ++ symbolBytes f a
+
 unfoldable pub fieldBytes : ℕ → ℤ → ℤ → ℤ → List ℕ
-fieldBytes d t f a = shortUnsigned d ++ (shortSigned t ++ (shortSigned f ++ changeBytes f a))
+fieldBytes d t f a = shortUnsigned d ++ typeBytes t f a
 
 -- a record after the previous values: the differences wrap at W bits, and the type's at 32
 unfoldable pub entryBytes : ℕ → State → Row → List ℕ

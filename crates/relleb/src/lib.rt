@@ -1,14 +1,16 @@
 // RELLEB, the packed table of whole relocation records: a count, and for each record its differences to the one before it.
 ghost use mathlib.Core.Path.{_≡_};
-ghost use Rattle.relleb.specs.Contract.{even, Reads};
+ghost use Rattle.relleb.specs.Contract.{even, Reads, Writes};
 use answer::Answer;
 use answer::Found;
 use answer::INPUT_LIMIT;
+use answer::LIST_LIMIT;
 use answer::Refusal;
 use word::Class;
 use word::Named;
 
 mod reader;
+mod writer;
 
 // Whether four columns have one length.
 fn same_length(offsets: usize, types: usize, symbols: usize, addends: usize) -> bool
@@ -53,6 +55,40 @@ pub fn read(
             }
             reader::fill(table, width, offsets, types, symbols, addends);
             answer::accept(count)
+        }
+    }
+}
+
+// The table of a column for each field, at the front of the lent bytes.
+pub fn write(
+    class: u32,
+    offsets: &[u64],
+    types: &[u32],
+    symbols: &[u32],
+    addends: &[i64],
+    table: &mut [u8],
+) -> Answer
+    ensures { λ r. ⌜ Writes class (now (offsets .entry)) (now (types .entry)) (now (symbols .entry)) (now (addends .entry)) (now (table .entry)) r (now (table .exit)) ⌝ }
+{
+    let named = Class::named(class);
+    let Named::Is(kind) = named else {
+        return answer::refuse(Refusal::Class, 0);
+    };
+    if !same_length(offsets.len(), types.len(), symbols.len(), addends.len()) {
+        return answer::refuse(Refusal::Columns, 0);
+    }
+    if LIST_LIMIT < offsets.len() {
+        return answer::refuse(Refusal::Limit, 0);
+    }
+    let width = kind.bits();
+    match writer::size(width, offsets, types, symbols, addends) {
+        Found::Refused(why, place) => answer::refuse(why, place),
+        Found::Count(need) => {
+            if (table.len() as u64) < need {
+                return answer::short_of(need);
+            }
+            writer::fill(width, offsets, types, symbols, addends, table);
+            answer::accept(need)
         }
     }
 }

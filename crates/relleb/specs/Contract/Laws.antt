@@ -23,8 +23,10 @@ use Rattle.word.specs.Class.Laws.{bytes-least, bytes-most}
 use Rattle.word.specs.declared.Class as class
 use Rattle.word.specs.declared.Named.{Named}
 use Rattle.word.specs.declared.Named.the-variants.{Is, Unknown}
-use Rattle.relleb.specs.Table.{Row, decode}
-use Rattle.relleb.specs.Contract.{offsetIn, typeIn, symbolIn, addendIn, even, Same, readIn, readOutcome, Filled, Fillable, Reads}
+use Rattle.records.specs.Writing.{Puts}
+use Rattle.records.proofs.Writing.{puts-filled}
+use Rattle.relleb.specs.Table.{Row, decode, rows, encode}
+use Rattle.relleb.specs.Contract.{offsetIn, typeIn, symbolIn, addendIn, even, Same, readIn, readOutcome, Filled, Fillable, Reads, writeIn, writeOutcome, Listed, Puttable, Writes}
 
 -- ---- the class's width
 pub class-width : (k : class.Class) {w : ℕ} → w ≡ bitsOf k → IsWidth w
@@ -46,7 +48,7 @@ module _ (a b c d : ℕ) where
 
 pub ruleset evens = (even-not, even-not-2, even-is, needs)
 
-even-same : (os ts ys : List ℕ) (us : List ℤ) → even (length os) (length ts) (length ys) (length us) ≡ true → Same os ts ys us
+pub even-same : (os ts ys : List ℕ) (us : List ℤ) → even (length os) (length ts) (length ys) (length us) ≡ true → Same os ts ys us
 unfolding even
 even-same os ts ys us = go (eqb (length os) (length ts)) refl (eqb (length os) (length ys)) refl
   where
@@ -144,3 +146,70 @@ fillable w s os ts ys us {t = t} e g test h l =
     record { fitting = record { list = c .list; is = c .is; fits = omega (arith, c .long) }; same = even-same os ts ys us (sym test ∙ not-false t h) }
 
 pub ruleset reading = (class-width, reads-unknown, reads-uneven, reads-huge, reads-not, reads-long, fillable, reads-full, needs)
+
+-- ---- writing
+module _ (os ts ys : List ℕ) (us : List ℤ) {n : Named} where
+  write-unknown : n ≡ Unknown → writeIn n os ts ys us ≡ refused Class 0
+  unfolding writeIn
+  write-unknown e = rw e
+
+  module _ {k : class.Class} (e : n ≡ Is k) where
+    pub write-uneven : even (length os) (length ts) (length ys) (length us) ≡ false → writeIn n os ts ys us ≡ refused Columns 0
+    unfolding writeIn
+    write-uneven h = rw (e, h)
+
+    module _ (h : even (length os) (length ts) (length ys) (length us) ≡ true) where
+      pub write-many : listLimit < length os → writeIn n os ts ys us ≡ refused Limit 0
+      unfolding writeIn
+      write-many l = rw (e, h, lt-leb (length os) listLimit l)
+
+      pub write-plain : length os ≤ listLimit → writeIn n os ts ys us ≡ encode (bitsOf k) (rows os ts ys us)
+      unfolding writeIn
+      write-plain l = rw (e, h, le-leb (length os) listLimit l)
+
+pub listed : (os ts ys : List ℕ) (us : List ℤ) {t : Bool} → t ≡ even (length os) (length ts) (length ys) (length us) → not t ≡ false → length os ≤ listLimit → Listed os ts ys us
+listed os ts ys us {t} test h l = record { same = even-same os ts ys us (sym test ∙ not-false t h); few = l }
+
+module _ (size : ℕ) (os ts ys : List ℕ) (us : List ℤ) (old : List ℕ) {n : Named} (named : n ≡ classOf size) {r : Answer} where
+  stays : {why : Refusal} {p : ℕ} → r ≡ refusal why p → writeIn n os ts ys us ≡ refused why p → Writes size os ts ys us old r old
+  stays a e =
+      let f = ap (λ (m : Named). writeIn m os ts ys us) (sym named) ∙ e in
+      record { answer = a ∙ sym (answer-refused (length old) f); table = sym (filled-refused (λ (b : ℕ). b) old f) }
+
+  pub writes-unknown : r ≡ refusal Class 0 → n ≡ Unknown → Writes size os ts ys us old r old
+  writes-unknown a e = stays a (write-unknown os ts ys us e)
+
+  module _ {k : class.Class} (is : n ≡ Is k) {t : Bool} (test : t ≡ even (length os) (length ts) (length ys) (length us)) where
+    pub writes-uneven : r ≡ refusal Columns 0 → not t ≡ true → Writes size os ts ys us old r old
+    writes-uneven a h = stays a (write-uneven os ts ys us is (sym test ∙ not-true t h))
+
+    pub writes-many : r ≡ refusal Limit 0 → not t ≡ false → listLimit < length os → Writes size os ts ys us old r old
+    writes-many a h l = stays a (write-many os ts ys us is (sym test ∙ not-false t h) l)
+
+    module _ {w : ℕ} {f : Found} (e : f ≡ foundOf (encode w (rows os ts ys us))) (wide : w ≡ bitsOf k) (h : not t ≡ false) (few : length os ≤ listLimit) where
+      pub writes-not : {why : Refusal} {p : ℕ} → f ≡ found.Refused why p → r ≡ refusal why p → Writes size os ts ys us old r old
+      writes-not g a =
+          stays a (write-plain os ts ys us is (sym test ∙ not-false t h) few ∙ ap (λ (m : ℕ). encode m (rows os ts ys us)) (sym wide) ∙ not-found (encode w (rows os ts ys us)) (sym e ∙ g))
+
+      module _ {m : ℕ} (g : f ≡ found.Count m) where
+        pub writes-long : r ≡ noRoom m → length old < m → Writes size os ts ys us old r old
+        writes-long a l =
+            let c = counted (encode w (rows os ts ys us)) (sym e ∙ g) in
+            let p : writeOutcome size os ts ys us ≡ encode w (rows os ts ys us) =
+            ap (λ (m : Named). writeIn m os ts ys us) (sym named) ∙ write-plain os ts ys us is (sym test ∙ not-false t h) few ∙ ap (λ (m : ℕ). encode m (rows os ts ys us)) (sym wide) in
+            record { answer = a ∙ rw p (sym (answer-long (length old) c l)); table = rw p (sym (filled-long (λ (b : ℕ). b) old c l)) }
+
+        pub writes-full : {new : List ℕ} → r ≡ success m → m ≤ length old → Puts (encode w (rows os ts ys us)) old new 0 → Writes size os ts ys us old r new
+        writes-full a l d =
+            let c = counted (encode w (rows os ts ys us)) (sym e ∙ g) in
+            let p : writeOutcome size os ts ys us ≡ encode w (rows os ts ys us) =
+            ap (λ (m : Named). writeIn m os ts ys us) (sym named) ∙ write-plain os ts ys us is (sym test ∙ not-false t h) few ∙ ap (λ (m : ℕ). encode m (rows os ts ys us)) (sym wide) in
+            record { answer = a ∙ rw p (sym (answer-fits (length old) c l)); table = rw p (puts-filled (record { list = c .list; is = c .is; room = omega (arith, c .long) }) d) }
+
+pub puttable : (w : ℕ) (os ts ys : List ℕ) (us : List ℤ) (old : List ℕ) {f : Found} {m : ℕ} {t : Bool} → f ≡ foundOf (encode w (rows os ts ys us)) → f ≡ found.Count m
+    → t ≡ even (length os) (length ts) (length ys) (length us) → not t ≡ false → m ≤ length old → Puttable (encode w (rows os ts ys us)) os ts ys us old 0
+puttable w os ts ys us old {t = t} e g test h l =
+    let c = counted (encode w (rows os ts ys us)) (sym e ∙ g) in
+    record { same = even-same os ts ys us (sym test ∙ not-false t h); fits = record { list = c .list; is = c .is; room = omega (arith, c .long) } }
+
+pub ruleset writing = (class-width, writes-unknown, writes-uneven, writes-many, listed, writes-not, writes-long, writes-full, needs)

@@ -1,0 +1,246 @@
+-- Which lists the writer accepts; that its table is within the input's limit; and that it reads back as the list. All of it over the width W.
+-- Assumes nothing.
+use Prim.Native.Nat.{ℕ, _+_, _-_, _*_, _%_, _^_, _≤_, _<_}
+use mathlib.Core.Path.{_≡_, refl, ap, ap₂, sym, _∙_}
+use mathlib.Core.Bool.{Bool, true, false}
+use mathlib.Core.List.{List, [], _∷_, _++_, map, append-assoc, append-nil}
+use native.Mathlib.Decide.{decLe}
+use native.Mathlib.Omega.{arith}
+use lib.Dec.{ltb}
+use lib.IntN.{ℤ, pos, negsuc, _+ℤ_, _-ℤ_}
+use lib.ListN.{length, getD, length-append}
+use lib.Signed.{mag}
+use borrow.Author.Tests.{lt-ltb, ltb-true}
+use Rattle.answer.specs.Outcome.{Outcome, accepted, inputLimit, listLimit, pick}
+use Rattle.answer.specs.Outcome.Laws as Outcome
+use Rattle.leb128.specs.Number.{IsWidth, readUnsigned, readSigned, shortUnsigned, shortSigned, isNeg}
+use Rattle.leb128.specs.declared.Signed.the-variants.{Value}
+use Rattle.leb128.specs.declared.Unsigned.the-variants.{Value as UValue}
+use Rattle.leb128.proofs.RoundTrip.{unsigned-bytes, signed-bytes}
+use Rattle.word.specs.Class.{bytesOf, bitsOf}
+use Rattle.word.specs.Class.Laws.{class-of}
+use Rattle.word.specs.declared.Class as class
+use Rattle.records.specs.Columns.{Each}
+use Rattle.records.specs.Columns.Laws.{At, each-of, column-of}
+use Rattle.records.specs.Reading.{Step, one}
+use Rattle.records.specs.Reading.Laws.{counted-records}
+use Rattle.records.specs.Writing.{Put, bytes, puts}
+use Rattle.records.specs.Writing as Writing
+use Rattle.records.proofs.Writing.{after-accepted}
+use Rattle.records.proofs.RoundTrip.{Accepts, puts-accepted, puts-legal, puts-most, signed-here, unsigned-here, back}
+use Rattle.wrap.specs.Wrap.{residue, wrapped, same}
+use Rattle.wrap.specs.Wrap.Laws.{residue-lt, residue-small, wrapped-range, back-residue, back-wrapped, back-unsigned, same-true}
+use Rattle.relleb.specs.Table.{Row, row, State, state, start, behind, addendOf, symbolOf, stepAt, decode, rows, fieldOf, changeBytes, fieldBytes, entryBytes, putOf, encode}
+use Rattle.relleb.specs.Table.Laws.{addend-is, symbol-same, symbol-other, type-is, offset-is, step-is, decode-is, rows-from, put-space, put-addend, put-bytes, entry-is, field-is, field-bytes, encode-is}
+use Rattle.relleb.specs.Contract.{offsetIn, typeIn, symbolIn, addendIn, even, Same, readOutcome, writeOutcome, Listed}
+use Rattle.relleb.specs.Contract.Laws.{class-width, even-same, same-even, read-plain, write-uneven, write-many, write-plain}
+use Rattle.relleb.proofs.Put.{many}
+
+-- ---- the records that have bytes: the offset has W bits, and the addend W, the sign among them
+abbrev pub Legal : ℕ → Row → Type 0
+Legal W x = (x .offset < 2 ^ W) × (mag (x .addend) < 2 ^ (W - 1))
+
+module _ (W : ℕ) where
+  put-is : (prev : State) (x : Row) → Legal W x → putOf W prev x ≡ bytes (entryBytes W prev x)
+  put-is prev x l = put-bytes W prev x (lt-ltb (x .offset) (2 ^ W) (l .0)) (lt-ltb (mag (x .addend)) (2 ^ (W - 1)) (l .1))
+
+  put-legal : (prev : State) (x : Row) (b : List ℕ) → putOf W prev x ≡ bytes b → Legal W x
+  put-legal prev x b e = go (ltb (x .offset) (2 ^ W)) refl (ltb (mag (x .addend)) (2 ^ (W - 1))) refl
+    where
+      go : (t : Bool) → ltb (x .offset) (2 ^ W) ≡ t → (u : Bool) → ltb (mag (x .addend)) (2 ^ (W - 1)) ≡ u → Legal W x
+      go true h true k = (ltb-true (x .offset) (2 ^ W) h, ltb-true (mag (x .addend)) (2 ^ (W - 1)) k)
+      go true h false k = let q = sym (put-addend W prev x h k) ∙ e in let z : _≡_ {A = ℕ} 0 1 = cc in absurd (omega arith)
+      go false h u k = let q = sym (put-space W prev x h) ∙ e in let z : _≡_ {A = ℕ} 0 1 = cc in absurd (omega arith)
+
+  -- a list has a table exactly where each of its records is legal
+  pub encode-accepts : (l : List Row) → Each (Legal W) l → Accepts (encode W l)
+  encode-accepts l h =
+      let b = puts-accepted (putOf W) behind (Legal W) (λ st x f. (entryBytes W st x, put-is st x f)) l 0 start h in
+      record { list = shortUnsigned (length l) ++ b .list; is = encode-is W l ∙ after-accepted (shortUnsigned (length l)) (b .is) }
+
+  pub encode-legal : (l : List Row) {b : List ℕ} → encode W l ≡ accepted b → Each (Legal W) l
+  encode-legal l e =
+      let c = Outcome.behind (shortUnsigned (length l)) (puts (putOf W) behind 0 start l) (sym (encode-is W l) ∙ e) in
+      puts-legal (putOf W) behind (Legal W) put-legal l 0 start (c .is)
+
+-- ---- what the columns of types and of symbols hold
+abbrev pub Fine : Row → Type 0
+Fine x = (x .type < 2 ^ 32) × (x .symbol < 2 ^ 32)
+
+field-mag : (base : ℤ) (x : Row) → mag (fieldOf base x) ≡ x .symbol
+field-mag base x = ap mag (field-is base x) ∙ go (same (x .addend) base)
+  where
+    go : (t : Bool) → mag (pick t (pos (x .symbol)) (negsuc (x .symbol))) ≡ x .symbol
+    go true = refl
+    go false = refl
+
+change-most : (W : ℕ) (f a : ℤ) → 0 < W → W ≤ 64 → mag a < 2 ^ (W - 1) → length (changeBytes f a) ≤ 10
+change-most W (pos y) a w h m = omega arith
+change-most W (negsuc y) a w h m = omega (arith, signed-bytes W a w m)
+
+module _ (W : ℕ) (wide : IsWidth W) where
+  -- ---- a record takes at most 30 bytes
+  entry-most : (prev : State) (x : Row) (b : List ℕ) → Fine x → putOf W prev x ≡ bytes b → length b ≤ 30
+  entry-most prev x b f e =
+      let d = residue W (pos (x .offset) -ℤ pos (prev .offset)) in
+      let t = wrapped 32 (pos (x .type) -ℤ pos (prev .type)) in
+      let y = fieldOf (prev .addend) x in
+      let a = wrapped W (x .addend -ℤ prev .addend) in
+      let k : entryBytes W prev x ≡ b = (let q = sym (put-is W prev x (put-legal W prev x b e)) ∙ e in cc) in
+      let n = ap length (sym k ∙ entry-is W prev x ∙ field-bytes d t y a) in
+      let m : mag y < 2 ^ (33 - 1) = rw (field-mag (prev .addend) x) (f .1) in
+      omega (
+        arith,
+        n,
+        length-append (shortUnsigned d) (shortSigned t ++ (shortSigned y ++ changeBytes y a)),
+        length-append (shortSigned t) (shortSigned y ++ changeBytes y a),
+        length-append (shortSigned y) (changeBytes y a),
+        unsigned-bytes W d (wide .0) (residue-lt W _),
+        signed-bytes 32 t (omega arith) (wrapped-range 32 (omega arith) _),
+        signed-bytes 33 y (omega arith) m,
+        change-most W y a (wide .0) (wide .1) (wrapped-range W (wide .0) _),
+        wide .1,
+      )
+
+  -- a table at the list's limit is within the input's
+  pub encode-most : (l : List Row) {b : List ℕ} → length l ≤ listLimit → Each Fine l → encode W l ≡ accepted b → length b ≤ inputLimit
+  encode-most l {b} h f e =
+      let c = Outcome.behind (shortUnsigned (length l)) (puts (putOf W) behind 0 start l) (sym (encode-is W l) ∙ e) in
+      let m = puts-most (putOf W) behind Fine 30 entry-most l 0 start f (c .is) in
+      omega (arith, ap length (c .whole), length-append (shortUnsigned (length l)) (c .rest), unsigned-bytes 64 (length l) (omega arith) (omega arith))
+
+  -- ---- the symbol field, and the addend's difference if it stands there
+  symbol-back : (s pre post : List ℕ) (o t : ℕ) (base : ℤ) (x : Row) → x .symbol < 2 ^ 32 → mag (x .addend) < 2 ^ (W - 1)
+      → s ≡ pre ++ ((shortSigned (fieldOf base x) ++ changeBytes (fieldOf base x) (wrapped W (x .addend -ℤ base))) ++ post)
+      → symbolOf W s base o t (readSigned 33 s (length pre))
+      ≡ one (row o t (x .symbol) (x .addend)) (length (pre ++ (shortSigned (fieldOf base x) ++ changeBytes (fieldOf base x) (wrapped W (x .addend -ℤ base))))) (state o t (x .addend))
+  symbol-back s pre post o t base x h k e = go (same (x .addend) base) refl
+    where
+      a : ℤ
+      a = wrapped W (x .addend -ℤ base)
+
+      go : (b : Bool) → same (x .addend) base ≡ b
+          → symbolOf W s base o t (readSigned 33 s (length pre))
+          ≡ one (row o t (x .symbol) (x .addend)) (length (pre ++ (shortSigned (fieldOf base x) ++ changeBytes (fieldOf base x) (wrapped W (x .addend -ℤ base))))) (state o t (x .addend))
+      go true q =
+          let f : fieldOf base x ≡ pos (x .symbol) = field-is base x ∙ ap (λ (b : Bool). pick b (pos (x .symbol)) (negsuc (x .symbol))) q in
+          let n : shortSigned (pos (x .symbol)) ++ [] ≡ shortSigned (pos (x .symbol)) = append-nil (shortSigned (pos (x .symbol))) in
+          let p : s ≡ pre ++ (shortSigned (pos (x .symbol)) ++ post) = rw (f, n) at e in
+          let r = signed-here 33 s pre post (length pre) (omega arith) refl (pos (x .symbol)) h p in
+          rw (f, n, r, ← same-true (x .addend) base q) (symbol-same W s (x .addend) o t (pos (x .symbol)) _ refl)
+      go false q =
+          let f : fieldOf base x ≡ negsuc (x .symbol) = field-is base x ∙ ap (λ (b : Bool). pick b (pos (x .symbol)) (negsuc (x .symbol))) q in
+          let v = shortSigned (negsuc (x .symbol)) in
+          let u = shortSigned (wrapped W (x .addend -ℤ base)) in
+          let p : s ≡ pre ++ ((v ++ u) ++ post) = rw f at e in
+          let p₁ : s ≡ pre ++ (v ++ (u ++ post)) = p ∙ ap (λ (m : List ℕ). pre ++ m) (append-assoc v u post) in
+          let p₂ : s ≡ (pre ++ v) ++ (u ++ post) = p₁ ∙ sym (append-assoc pre v (u ++ post)) in
+          let r = signed-here 33 s pre (u ++ post) (length pre) (omega arith) refl (negsuc (x .symbol)) h p₁ in
+          let w = signed-here W s (pre ++ v) post (length (pre ++ v)) (wide .0) refl (wrapped W (x .addend -ℤ base)) (wrapped-range W (wide .0) _) p₂ in
+          let z = addend-is W base o t (x .symbol) w (sym (back-wrapped W (wide .0) base (x .addend) k)) in
+          rw (f, r, ← append-assoc pre v u) (symbol-other W s base o t (negsuc (x .symbol)) _ refl ∙ z)
+
+  -- a record's bytes read back as that record, wherever they stand
+  record-back : (pre post b : List ℕ) (prev : State) (x : Row) → Unit {0} → Fine x → putOf W prev x ≡ bytes b
+      → (stepAt W (pre ++ (b ++ post)) (length pre) prev ≡ one x (length pre + length b) (behind prev x)) × Unit {0}
+  record-back pre post b prev x g f e =
+      let l = put-legal W prev x b e in
+      let d = residue W (pos (x .offset) -ℤ pos (prev .offset)) in
+      let t = wrapped 32 (pos (x .type) -ℤ pos (prev .type)) in
+      let y = fieldOf (prev .addend) x in
+      let a = wrapped W (x .addend -ℤ prev .addend) in
+      let v = shortSigned y ++ changeBytes y a in
+      let k : b ≡ shortUnsigned d ++ (shortSigned t ++ v) = (let q = sym (put-is W prev x l) ∙ e in let k : entryBytes W prev x ≡ b = cc in sym k ∙ entry-is W prev x ∙ field-bytes d t y a) in
+      let s = pre ++ (b ++ post) in
+      let p₁ : s ≡ pre ++ (shortUnsigned d ++ ((shortSigned t ++ v) ++ post)) = ap (λ (m : List ℕ). pre ++ (m ++ post)) k ∙ ap (λ (m : List ℕ). pre ++ m) (append-assoc (shortUnsigned d) (shortSigned t ++ v) post) in
+      let p₂ : s ≡ (pre ++ shortUnsigned d) ++ (shortSigned t ++ (v ++ post)) =
+      p₁ ∙ sym (append-assoc pre (shortUnsigned d) ((shortSigned t ++ v) ++ post)) ∙ ap (λ (m : List ℕ). (pre ++ shortUnsigned d) ++ m) (append-assoc (shortSigned t) v post) in
+      let p₃ : s ≡ ((pre ++ shortUnsigned d) ++ shortSigned t) ++ (v ++ post) = p₂ ∙ sym (append-assoc (pre ++ shortUnsigned d) (shortSigned t) (v ++ post)) in
+      let r₁ = unsigned-here W s pre ((shortSigned t ++ v) ++ post) (length pre) (wide .0) refl d (residue-lt W _) p₁ in
+      let r₂ = signed-here 32 s (pre ++ shortUnsigned d) (v ++ post) (length (pre ++ shortUnsigned d)) (omega arith) refl t (wrapped-range 32 (omega arith) _) p₂ in
+      let o : (prev .offset + d) % 2 ^ W ≡ x .offset = back-unsigned W (prev .offset) (x .offset) (l .0) in
+      let u : residue 32 (pos (prev .type) +ℤ t) ≡ x .type = back-residue 32 (omega arith) (pos (prev .type)) (pos (x .type)) ∙ residue-small 32 (x .type) (f .0) in
+      let z = symbol-back s ((pre ++ shortUnsigned d) ++ shortSigned t) post (x .offset) (x .type) (prev .addend) x (f .1) (l .1) p₃ in
+      let n : length (((pre ++ shortUnsigned d) ++ shortSigned t) ++ v) ≡ length pre + length b =
+      omega (arith, length-append ((pre ++ shortUnsigned d) ++ shortSigned t) v, length-append (pre ++ shortUnsigned d) (shortSigned t), length-append pre (shortUnsigned d), ap length k, length-append (shortUnsigned d) (shortSigned t ++ v), length-append (shortSigned t) v) in
+      (step-is W s (length pre) prev ∙ offset-is W s prev r₁ ∙ type-is W s prev ((prev .offset + d) % 2 ^ W) r₂ ∙ rw (o, u) z ∙ ap (λ (m : ℕ). one x m (behind prev x)) n, tt)
+
+  -- ---- the round trip: a written table decodes to the list
+  pub decode-encode : (l : List Row) {b : List ℕ} → length l < 2 ^ 64 → Each Fine l → encode W l ≡ accepted b → decode W b ≡ accepted l
+  decode-encode l {b} few fine e =
+      let n = shortUnsigned (length l) in
+      let c = Outcome.behind n (puts (putOf W) behind 0 start l) (sym (encode-is W l) ∙ e) in
+      let h = unsigned-here 64 b [] (c .rest) 0 (omega arith) refl (length l) few (c .whole) in
+      decode-is W b ∙ counted-records (stepAt W b) (length b) start h ∙
+      rw (c .whole) (back (stepAt W) (putOf W) behind (λ (x : State). Unit {0}) Fine record-back l 0 start n tt fine (c .is))
+
+-- ---- the calls, for either class
+-- the lists that a write accepts: four columns of one length, within the limit, and of legal records
+module _ (k : class.Class) (os ts ys : List ℕ) (us : List ℤ) where
+  pub write-accepts : Listed os ts ys us → Each (Legal (bitsOf k)) (rows os ts ys us) → Accepts (writeOutcome (bytesOf k) os ts ys us)
+  write-accepts l h =
+      let a = encode-accepts (bitsOf k) (rows os ts ys us) h in
+      record { list = a .list; is = write-plain os ts ys us (class-of k) (same-even os ts ys us (l .same)) (l .few) ∙ a .is }
+
+  module _ {b : List ℕ} (e : writeOutcome (bytesOf k) os ts ys us ≡ accepted b) where
+    pub write-listed : Listed os ts ys us
+    write-listed = go (even (length os) (length ts) (length ys) (length us)) refl
+      where
+        go : (t : Bool) → even (length os) (length ts) (length ys) (length us) ≡ t → Listed os ts ys us
+        go false h = absurd (Outcome.accepted-refused e (write-uneven os ts ys us (class-of k) h))
+        go true h =
+            elim (decLe (length os) listLimit) [
+              | no m ↦ absurd (Outcome.accepted-refused e (write-many os ts ys us (class-of k) h (omega arith)))
+              | yes m ↦ record { same = even-same os ts ys us h; few = m }
+            ]
+
+    plain : encode (bitsOf k) (rows os ts ys us) ≡ accepted b
+    plain = let l = write-listed in sym (write-plain os ts ys us (class-of k) (same-even os ts ys us (l .same)) (l .few)) ∙ e
+
+    pub write-legal : Each (Legal (bitsOf k)) (rows os ts ys us)
+    write-legal = encode-legal (bitsOf k) (rows os ts ys us) plain
+
+    -- what was written is within the input's limit, and reads back, into columns of any one length, as the records of the columns
+    module _ (kinds : (i : ℕ) → getD ts i 0 < 2 ^ 32) (indexes : (i : ℕ) → getD ys i 0 < 2 ^ 32) where
+      fine : Each Fine (rows os ts ys us)
+      fine =
+          let l = write-listed in
+          each-of Fine (rows os ts ys us)
+          (λ i h. record {
+            one = row (getD os i 0) (getD ts i 0) (getD ys i 0) (getD us i (pos 0));
+            here = rows-from os ts ys us (l .same .types) (l .same .symbols) (l .same .addends) i (omega (arith, many os ts ys us (l .same)));
+            is = (kinds i, indexes i);
+          })
+
+      pub write-fits : length b ≤ inputLimit
+      write-fits =
+          let l = write-listed in
+          encode-most (bitsOf k) (class-width k refl) (rows os ts ys us) (omega (arith, l .few, many os ts ys us (l .same))) fine plain
+
+      pub read-write : (os₀ ts₀ ys₀ : List ℕ) (us₀ : List ℤ) → Same os₀ ts₀ ys₀ us₀ → readOutcome (bytesOf k) b os₀ ts₀ ys₀ us₀ ≡ accepted (rows os ts ys us)
+      read-write os₀ ts₀ ys₀ us₀ s =
+          let l = write-listed in
+          read-plain b (length os₀) (length ts₀) (length ys₀) (length us₀) (class-of k) (same-even os₀ ts₀ ys₀ us₀ s) write-fits
+          ∙ decode-encode (bitsOf k) (class-width k refl) (rows os ts ys us) (omega (arith, l .few, many os ts ys us (l .same))) fine plain
+
+-- the records of four columns have these columns
+module _ (os ts ys : List ℕ) (us : List ℤ) (s : Same os ts ys us) where
+  at : (P : Row → Type 0) (i : ℕ) → i < length (rows os ts ys us) → P (row (getD os i 0) (getD ts i 0) (getD ys i 0) (getD us i (pos 0))) → At (rows os ts ys us) P i
+  at P i h p =
+      record {
+        one = row (getD os i 0) (getD ts i 0) (getD ys i 0) (getD us i (pos 0));
+        here = rows-from os ts ys us (s .types) (s .symbols) (s .addends) i (omega (arith, many os ts ys us s));
+        is = p;
+      }
+
+  pub rows-offsets : map offsetIn (rows os ts ys us) ≡ os
+  rows-offsets = column-of offsetIn (rows os ts ys us) os 0 (many os ts ys us s) (λ i h. at (λ (x : Row). offsetIn x ≡ getD os i 0) i h refl)
+
+  pub rows-types : map typeIn (rows os ts ys us) ≡ ts
+  rows-types = column-of typeIn (rows os ts ys us) ts 0 (many os ts ys us s ∙ s .types) (λ i h. at (λ (x : Row). typeIn x ≡ getD ts i 0) i h refl)
+
+  pub rows-symbols : map symbolIn (rows os ts ys us) ≡ ys
+  rows-symbols = column-of symbolIn (rows os ts ys us) ys 0 (many os ts ys us s ∙ s .symbols) (λ i h. at (λ (x : Row). symbolIn x ≡ getD ys i 0) i h refl)
+
+  pub rows-addends : map addendIn (rows os ts ys us) ≡ us
+  rows-addends = column-of addendIn (rows os ts ys us) us (pos 0) (many os ts ys us s ∙ s .addends) (λ i h. at (λ (x : Row). addendIn x ≡ getD us i (pos 0)) i h refl)

@@ -1,0 +1,146 @@
+-- What the writer's passes go by, as the code asks it: x is what `fields_of` returned. A loop has the bits of the addend before, w.
+-- Assumes nothing.
+use Prim.Native.Nat.{ℕ, _+_, _*_, _^_, _≤_, _<_}
+use mathlib.Core.Path.{_≡_, refl, ap, sym, _∙_}
+use mathlib.Core.List.{List, [], _∷_, _++_}
+use native.Mathlib.Omega.{arith}
+use lib.IntN.{ℤ, pos}
+use lib.ListN.{length, drop, getD}
+use lib.Signed.{mag}
+use mir.Syntax.{w64}
+use mir.Val.{toZ, ofZ, Fits}
+use mir.Facts.{toZ-ofZ}
+use borrow.Author.Needs.{needs, sfits-of}
+use Rattle.answer.specs.declared.Refusal.{Refusal}
+use Rattle.answer.specs.declared.Found.the-variants as found
+use Rattle.answer.specs.Outcome.{Outcome, after, foundOf}
+use Rattle.leb128.specs.Number.{shortUnsigned, Written}
+use Rattle.leb128.proofs.RoundTrip.{unsigned-bytes}
+use Rattle.records.specs.Writing as Writing
+use Rattle.records.specs.Writing.{bytes, puts, Puts}
+use Rattle.records.proofs.Writing.{Sized, sized-none, sized-more, sized-bad, sized-end, Putting, putting-none, putting-same, putting-bad, putting-room, putting-more, putting-end, head-room, body-room, both-written}
+use Rattle.relleb.specs.declared.writer.Fields.{Fields}
+use Rattle.relleb.specs.declared.writer.Fields.the-variants.{Numbers, Refused}
+use Rattle.relleb.specs.Table.{Row, row, state, start, behind, rows, fieldBytes, putOf, encode}
+use Rattle.relleb.specs.Table.Laws.{rows-length, rows-from, encode-is}
+use Rattle.relleb.specs.Contract.{Same, fieldsPut, Measured, Listed, Puttable}
+
+abbrev Bits : ℤ → ℤ
+Bits z = toZ w64 (ofZ w64 z)
+
+-- the record at an index, as the loop has it
+abbrev rowAt : List ℕ → List ℕ → List ℕ → List ℤ → ℕ → Row
+rowAt os ts ys us i = row (getD os i 0) (getD ts i 0) (getD ys i 0) (Bits (getD us i (pos 0)))
+
+module _ (os ts ys : List ℕ) (us : List ℤ) (same : Same os ts ys us) where
+  pub many : length (rows os ts ys us) ≡ length os
+  many = rows-length os ts ys us (same .types) (same .symbols) (same .addends)
+
+  here : (i : ℕ) → i < length os → mag (getD us i (pos 0)) < 2 ^ 63 → drop i (rows os ts ys us) ≡ rowAt os ts ys us i ∷ drop (i + 1) (rows os ts ys us)
+  here i h m =
+      rows-from os ts ys us (same .types) (same .symbols) (same .addends) i h
+      ∙ ap (λ (a : ℤ). row (getD os i 0) (getD ts i 0) (getD ys i 0) a ∷ drop (i + 1) (rows os ts ys us)) (sym (toZ-ofZ {w = w64} (sfits-of m)))
+
+-- ---- the first pass
+pub record Sizing (W : ℕ) (os ts ys : List ℕ) (us : List ℤ) (total o t w i : ℕ) : Type 0 where
+  pub sized : Sized (putOf W) behind (encode W (rows os ts ys us)) (rows os ts ys us) 40 total i (state o t (toZ w64 w))
+  pub within : i ≤ length os
+
+pub size-begin : (W : ℕ) {os ts ys : List ℕ} {us : List ℤ} {total : ℕ} → Listed os ts ys us → total ≡ length (shortUnsigned (length os)) → Sizing W os ts ys us total 0 0 0 0
+size-begin W {os} {ts} {ys} {us} l e =
+    let n = many os ts ys us (l .same) in
+    let k = unsigned-bytes 64 (length (rows os ts ys us)) (omega arith) (omega (arith, l .few)) in
+    record {
+      sized = rw (encode-is W (rows os ts ys us), e, ← n) (sized-none (putOf W) behind (rows os ts ys us) (shortUnsigned (length (rows os ts ys us))) 40 start (omega arith));
+      within = omega arith;
+    }
+
+module _ {W : ℕ} {os ts ys : List ℕ} {us : List ℤ} {total o t w i : ℕ} (l : Listed os ts ys us) (g : Sizing W os ts ys us total o t w i) where
+  module _ {x : Fields} (h : i < length os) (m : mag (getD us i (pos 0)) < 2 ^ 63) (e : fieldsPut x ≡ putOf W (state o t (toZ w64 w)) (rowAt os ts ys us i)) where
+    pub size-bad : {why : Refusal} → x ≡ Refused why → found.Refused why i ≡ foundOf (encode W (rows os ts ys us))
+    size-bad f = sized-bad (g .sized) (here os ts ys us (l .same) i h m) (sym e ∙ ap fieldsPut f)
+
+    module _ {d : ℕ} {q f a : ℤ} {r : ℕ} (k : x ≡ Numbers d q f a) (i₁ : Bits q ≡ q) (i₂ : Bits f ≡ f) (i₃ : Bits a ≡ a) (n : Measured r (fieldBytes d (Bits q) (Bits f) (Bits a))) where
+      pub size-sum : Fits w64 (total + r)
+      size-sum = record { fits = omega (arith, g .sized .few, g .within, l .few, n .few) }
+
+      pub size-more : Sizing W os ts ys us (total + r) (getD os i 0) (getD ts i 0) (ofZ w64 (getD us i (pos 0))) (i + 1)
+      size-more =
+          record {
+            sized = rw (n .is, i₁, i₂, i₃) (sized-more (g .sized) (here os ts ys us (l .same) i h m) (sym e ∙ ap fieldsPut k) (rw (n .is, i₁, i₂, i₃) at (n .few)));
+            within = omega arith;
+          }
+
+  pub size-end : length os ≤ i → found.Count total ≡ foundOf (encode W (rows os ts ys us))
+  size-end h = sized-end (g .sized) (omega (arith, many os ts ys us (l .same)))
+
+  pub size-in-2 : i < length os → i < length ts
+  size-in-2 h = omega (arith, l .same .types)
+
+  pub size-in-3 : i < length os → i < length ys
+  size-in-3 h = omega (arith, l .same .symbols)
+
+  pub size-in-4 : i < length os → i < length us
+  size-in-4 h = omega (arith, l .same .addends)
+
+pub ruleset sizes = (size-begin, size-bad, size-sum, size-more, size-end, size-in-2, size-in-3, size-in-4, needs)
+
+-- ---- the second pass
+abbrev pub body : ℕ → List ℕ → List ℕ → List ℕ → List ℤ → Outcome (List ℕ)
+body W os ts ys us = puts (putOf W) behind 0 start (rows os ts ys us)
+
+pub record Filling (W : ℕ) (os ts ys : List ℕ) (us : List ℤ) (old now : List ℕ) (first at o t w i : ℕ) : Type 0 where
+  pub putting : Putting (putOf W) behind (body W os ts ys us) (rows os ts ys us) old now first at i (state o t (toZ w64 w))
+
+pub put-begin : (W : ℕ) (os ts ys : List ℕ) (us : List ℤ) (old : List ℕ) (at : ℕ) → Filling W os ts ys us old old at at 0 0 0 0
+put-begin W os ts ys us old at = record { putting = putting-none (putOf W) behind (rows os ts ys us) old at start }
+
+module _ {W : ℕ} {os ts ys : List ℕ} {us : List ℤ} {old now : List ℕ} {first at o t w i : ℕ} (f : Puttable (body W os ts ys us) os ts ys us old first) (g : Filling W os ts ys us old now first at o t w i) where
+  pub put-same : length now ≡ length old
+  put-same = putting-same (f .fits) (g .putting)
+
+  module _ {x : Fields} (h : i < length os) (m : mag (getD us i (pos 0)) < 2 ^ 63) (e : fieldsPut x ≡ putOf W (state o t (toZ w64 w)) (rowAt os ts ys us i)) where
+    pub put-bad : {why : Refusal} → x ≡ Refused why → Puts (body W os ts ys us) old now first
+    put-bad k = absurd (putting-bad (f .fits) (g .putting) (here os ts ys us (f .same) i h m) (sym e ∙ ap fieldsPut k))
+
+    module _ {d : ℕ} {q p a : ℤ} (k : x ≡ Numbers d q p a) (i₁ : Bits q ≡ q) (i₂ : Bits p ≡ p) (i₃ : Bits a ≡ a) where
+      pub put-room : at + length (fieldBytes d (Bits q) (Bits p) (Bits a)) ≤ length now
+      put-room = rw (i₁, i₂, i₃) (putting-room (f .fits) (g .putting) (here os ts ys us (f .same) i h m) (sym e ∙ ap fieldsPut k))
+
+      pub put-more : {new : List ℕ} {past : ℕ} → Written now new at past (fieldBytes d (Bits q) (Bits p) (Bits a))
+          → Filling W os ts ys us old new first past (getD os i 0) (getD ts i 0) (ofZ w64 (getD us i (pos 0))) (i + 1)
+      put-more v = record { putting = putting-more (f .fits) (g .putting) (here os ts ys us (f .same) i h m) (sym e ∙ ap fieldsPut k) (rw (i₁, i₂, i₃) at v) }
+
+  pub put-end : length os ≤ i → Puts (body W os ts ys us) old now first
+  put-end h = putting-end (f .fits) (g .putting) (omega (arith, many os ts ys us (f .same)))
+
+  pub put-in-2 : i < length os → i < length ts
+  put-in-2 h = omega (arith, f .same .types)
+
+  pub put-in-3 : i < length os → i < length ys
+  put-in-3 h = omega (arith, f .same .symbols)
+
+  pub put-in-4 : i < length os → i < length us
+  put-in-4 h = omega (arith, f .same .addends)
+
+pub ruleset puttings = (put-begin, put-same, put-bad, put-room, put-more, put-end, put-in-2, put-in-3, put-in-4, needs)
+
+-- ---- the count, and then the records
+module _ (W : ℕ) (os ts ys : List ℕ) (us : List ℤ) (old : List ℕ) (f : Puttable (encode W (rows os ts ys us)) os ts ys us old 0) where
+  whole : encode W (rows os ts ys us) ≡ after (shortUnsigned (length os)) (body W os ts ys us)
+  whole = encode-is W (rows os ts ys us) ∙ ap (λ (n : ℕ). after (shortUnsigned n) (body W os ts ys us)) (many os ts ys us (f .same))
+
+  all : Writing.Fits (after (shortUnsigned (length os)) (body W os ts ys us)) old 0
+  all = rw (← whole) (f .fits)
+
+  pub fill-head : 0 + length (shortUnsigned (length os)) ≤ length old
+  fill-head = head-room (shortUnsigned (length os)) (body W os ts ys us) all
+
+  module _ {mid : List ℕ} {at : ℕ} (w : Written old mid 0 at (shortUnsigned (length os))) where
+    pub fill-rest : Puttable (body W os ts ys us) os ts ys us mid at
+    fill-rest = record { same = f .same; fits = body-room (shortUnsigned (length os)) (body W os ts ys us) all w }
+
+    pub fill-all : {new : List ℕ} → Puts (body W os ts ys us) mid new at → Puts (encode W (rows os ts ys us)) old new 0
+    fill-all p = rw whole (both-written w p)
+
+pub ruleset fills = (fill-head, fill-rest, fill-all, needs)
