@@ -1,3 +1,5 @@
 pub mod EntryNeeds
 pub mod PassNeeds
 pub mod ReadNeeds
+pub mod Pairs
+pub mod WriteNeeds

@@ -1,9 +1,11 @@
 // APR1, the 32-bit packed table of offsets: an identifier, a first offset, and pairs of a count and a gap.
-ghost use Rattle.apr1.specs.Contract.{Reads};
+ghost use Rattle.apr1.specs.Contract.{Reads, Writes};
 use answer::Answer;
 use answer::Found;
 use answer::INPUT_LIMIT;
+use answer::LIST_LIMIT;
 use answer::Refusal;
+use writer::Sized;
 
 mod reader;
 mod writer;
@@ -23,6 +25,28 @@ pub fn read(table: &[u8], offsets: &mut [u64]) -> Answer
             }
             reader::fill(table, offsets);
             answer::accept(count)
+        }
+    }
+}
+
+// The table of a list of offsets, at the front of the lent bytes.
+pub fn write(offsets: &[u64], table: &mut [u8]) -> Answer
+    ensures { λ r. ⌜ Writes (now (offsets .entry)) (now (table .entry)) r (now (table .exit)) ⌝ }
+{
+    if LIST_LIMIT < offsets.len() {
+        return answer::refuse(Refusal::Limit, 0);
+    }
+    if offsets.len() < 1 {
+        return answer::refuse(Refusal::Empty, 0);
+    }
+    match writer::size(offsets) {
+        Sized::Refused(why, place) => answer::refuse(why, place),
+        Sized::Table(pairs, need) => {
+            if (table.len() as u64) < need {
+                return answer::short_of(need);
+            }
+            writer::fill(offsets, table, pairs);
+            answer::accept(need)
         }
     }
 }

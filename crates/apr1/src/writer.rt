@@ -27,7 +27,11 @@ fn run_from(offsets: &[u64], from: usize, y: u64, d: u64) -> usize
         if LAST < z {
             return i - from;
         }
-        if z != x + d {
+        let next = x + d;
+        if z < next {
+            return i - from;
+        }
+        if next < z {
             return i - from;
         }
         x = z;
@@ -55,7 +59,7 @@ fn put_pair(table: &mut [u8], at: usize, c: u64, d: u64) -> usize
 fn head_len(n: u64, a: u64) -> usize
     ensures { λ r. ⌜ r ≡ length (headOf n a) ⌝ }
 {
-    4 + leb128::unsigned_len(n) + leb128::unsigned_len(a)
+    4 + pair_len(n, a)
 }
 
 fn put_head(table: &mut [u8], n: u64, a: u64) -> usize
@@ -63,8 +67,7 @@ fn put_head(table: &mut [u8], n: u64, a: u64) -> usize
     ensures { λ r. ⌜ Written (now (table .entry)) (now (table .exit)) 0 r (headOf n a) ⌝ }
 {
     let at = records::put_identifier(&mut *table, b"APR1");
-    let next = leb128::write_unsigned(&mut *table, at, n);
-    leb128::write_unsigned(&mut *table, next, a)
+    put_pair(&mut *table, at, n, a)
 }
 
 // The first pass.
