@@ -3,3 +3,4 @@ pub mod PassNeeds
 pub mod ReadNeeds
 pub mod Pairs
 pub mod WriteNeeds
+pub mod Laws

@@ -383,7 +383,7 @@ pub ruleset fills = (fill-head, fill-rest, fill-all, needs)
 
 -- ---- a write as a whole
 module _ (l old : List ℕ) where
-  encoding-long : listLimit < length l → encoding l ≡ refused Limit 0
+  pub encoding-long : listLimit < length l → encoding l ≡ refused Limit 0
   unfolding encoding
   encoding-long h = rw (lt-leb (length l) listLimit h)
 

@@ -150,12 +150,12 @@ fn fill_run(column: &mut [u64], from: usize, x: u64, c: u64, d: u64) -> usize
 {
     let mut i = from;
     let mut y = x;
-    let mut rest = c;
-    while 0 < rest {
+    let mut more = c;
+    while 0 < more {
         y += d;
         column[i] = y;
         i += 1;
-        rest -= 1;
+        more -= 1;
     }
     i
 }

@@ -5,10 +5,10 @@ use Rattle.apr1.proofs.reader.fill_run.Reads as reads
 use Rattle.apr1.proofs.reader.fill_run.Lts as lts
 
 abbrev Inv-loop : tie.InvT-loop
-Inv-loop column₀ from x c d i₀ y₀ rest₀ column i y rest = Filling column₀ from x c d column i y rest
+Inv-loop column₀ from x c d i₀ y₀ more₀ column i y more = Filling column₀ from x c d column i y more
 
 abbrev μ-loop : tie.MeasureT-loop
-μ-loop column₀ from x c d i₀ y₀ rest₀ column i y rest = rest
+μ-loop column₀ from x c d i₀ y₀ more₀ column i y more = more
 
 -- src/reader.rt:154:5
 loop-holds : tie.Need-loop-holds Inv-loop μ-loop
@@ -31,8 +31,8 @@ add-i : tie.Need-add-i Inv-loop μ-loop
 add-i c = search runs
 
 -- src/reader.rt:158:9
-sub-rest : tie.Need-sub-rest Inv-loop μ-loop
-sub-rest c = search runs
+sub-more : tie.Need-sub-more Inv-loop μ-loop
+sub-more c = search runs
 
 -- src/reader.rt:154:5
 loop-less : tie.Need-loop-less Inv-loop μ-loop
@@ -61,7 +61,7 @@ fill-run-spec =
     mul-column
     slice-write-column
     add-i
-    sub-rest
+    sub-more
     loop-less
     loop-again
     same-length
