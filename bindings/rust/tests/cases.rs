@@ -1,0 +1,141 @@
+//! Tables worked by hand, run through the library.
+
+use reloc::{
+    Kind, Refusal, apa1_read, apa1_write, apr1_read, apr1_write, relleb_read, relleb_write,
+    relr_apply, relr_read, relr_write,
+};
+
+fn refused(number: u32, place: u64) -> Result<usize, Refusal> {
+    Err(Refusal { number, place, need: 0 })
+}
+
+fn needs(need: u64) -> Result<usize, Refusal> {
+    Err(Refusal { number: 9, place: 0, need })
+}
+
+fn bytes(class: u32, words: &[u64]) -> Vec<u8> {
+    words.iter().flat_map(|word| word.to_le_bytes()[..class as usize].to_vec()).collect()
+}
+
+/// Words read as the list.
+fn relr_reads(class: u32, words: &[u64], list: &[u64]) {
+    let table = bytes(class, words);
+    let mut got = vec![0; list.len()];
+    assert_eq!(relr_read(class, &table, &mut got), Ok(list.len()));
+    assert_eq!(got, list);
+    assert_eq!(relr_read(class, &table, &mut got[1..]), needs(list.len() as u64));
+}
+
+/// Words read as the list, and the list written as the words.
+fn relr_both_ways(class: u32, list: &[u64], words: &[u64]) {
+    relr_reads(class, words, list);
+    let table = bytes(class, words);
+    let mut made = vec![0; table.len()];
+    assert_eq!(relr_write(class, list, &mut made[1..]), needs(table.len() as u64));
+    assert_eq!(relr_write(class, list, &mut made), Ok(table.len()));
+    assert_eq!(made, table);
+}
+
+/// Numbers in a table: A as APR1's first offset, B as an APA1 addend.
+#[test]
+fn a_and_b() {
+    let mut offsets = [0];
+    assert_eq!(apr1_read(b"APR1\x00\xE5\x8E\x26", &mut offsets), Ok(1));
+    assert_eq!(offsets, [624485]);
+    let mut addends = [0];
+    assert_eq!(apa1_read(b"APA1\x01\x00\xC0\xBB\x78", &mut offsets, &mut addends), Ok(1));
+    assert_eq!((offsets, addends), ([0], [-123456]));
+}
+
+#[test]
+fn c_to_g() {
+    relr_both_ways(8, &[0x2000, 0x2008, 0x2010, 0x2018], &[0x2000, 0xF]);
+    relr_both_ways(8, &[0x2000, 0x21F8], &[0x2000, 0x8000_0000_0000_0001]);
+    relr_both_ways(8, &[0x2000, 0x2200], &[0x2000, 0x2200]);
+    relr_both_ways(8, &[0x2000, 0x21F8, 0x2200], &[0x2000, 0x8000_0000_0000_0001, 0x3]);
+    relr_reads(8, &[0x2000, 0x21F8, 0x3], &[0x2000, 0x21F8, 0x2200]);
+    relr_both_ways(4, &[0x100, 0x17C], &[0x100, 0x8000_0001]);
+    relr_both_ways(8, &[0x10, 0x14, 0x18, 0x20], &[0x10, 0x14, 0x18, 0x3]);
+}
+
+#[test]
+fn h() {
+    let list = [0x1000, 0x1004, 0x1008, 0x1010];
+    let table = b"APR1\x02\x80\x20\x02\x04\x01\x08";
+    let (mut got, mut made) = ([0; 4], [0; 11]);
+    assert_eq!(apr1_read(table, &mut got), Ok(4));
+    assert_eq!(got, list);
+    assert_eq!(apr1_write(&list, &mut made), Ok(11));
+    assert_eq!(made, *table);
+    assert_eq!(apr1_write(&[], &mut made), refused(13, 0));
+}
+
+#[test]
+fn i() {
+    let table = b"APA1\x02\x80\x20\x10\x08\x08";
+    let (mut offsets, mut addends, mut made) = ([0; 2], [0; 2], [0; 10]);
+    assert_eq!(apa1_read(table, &mut offsets, &mut addends), Ok(2));
+    assert_eq!((offsets, addends), ([0x1000, 0x1008], [16, 24]));
+    assert_eq!(apa1_write(&offsets, &addends, &mut made), Ok(10));
+    assert_eq!(made, *table);
+    assert_eq!(apa1_write(&offsets, &addends[1..], &mut made), refused(11, 0));
+}
+
+#[test]
+fn p() {
+    let table = [0x02, 0x10, 0x81, 0x02, 0x7C, 0x7C, 0x08, 0x00, 0x03];
+    let (mut o, mut t, mut s, mut a) = ([0; 2], [0; 2], [0; 2], [0; 2]);
+    assert_eq!(relleb_read(8, &table, &mut o, &mut t, &mut s, &mut a), Ok(2));
+    assert_eq!((o, t, s, a), ([16, 24], [257, 257], [3, 3], [-4, -4]));
+    let mut made = [0; 9];
+    assert_eq!(relleb_write(8, &o, &t, &s, &a, &mut made), Ok(9));
+    assert_eq!(made, table);
+    assert_eq!(relleb_write(4, &o, &t, &s, &[0, 1 << 31], &mut made), refused(14, 1));
+}
+
+#[test]
+fn j() {
+    let mut image = [0xFF; 8];
+    assert_eq!(relr_apply(8, &[0; 8], 1, &mut image), Ok(1));
+    assert_eq!(image, [0; 8]);
+    assert_eq!(relr_apply(4, &[0; 4], 1 << 32, &mut image), refused(15, 0));
+}
+
+#[test]
+fn k() {
+    let mut list = [0];
+    assert_eq!(relr_read(8, &(u64::MAX - 7).to_le_bytes(), &mut list), Ok(1));
+    assert_eq!(list, [u64::MAX - 7]);
+    assert_eq!(relr_read(8, &(u64::MAX - 5).to_le_bytes(), &mut list), refused(7, 0));
+}
+
+#[test]
+fn l() {
+    let (mut o, mut a) = ([0; 64], [0; 64]);
+    assert_eq!(apa1_read(b"APA1\x40", &mut o, &mut a), refused(5, 4));
+    let table = [&b"APA1\xC0\x00"[..], &[1; 128]].concat();
+    assert_eq!(apa1_read(&table, &mut o, &mut a), Ok(64));
+    assert_eq!((o[63], a[63]), (64, 64));
+}
+
+#[test]
+fn m() {
+    assert_eq!(relr_read(8, &1u64.to_le_bytes(), &mut [0; 64]), refused(6, 0));
+}
+
+#[test]
+fn n() {
+    let mut image = [0; 8];
+    assert_eq!(relr_apply(8, &0u64.to_le_bytes(), 1, &mut image), Ok(1));
+    assert_eq!(relr_apply(8, &2u64.to_le_bytes(), 1, &mut image), refused(12, 0));
+    assert_eq!(image, [1, 0, 0, 0, 0, 0, 0, 0]);
+}
+
+#[test]
+fn a_refusal_tells_its_kind() {
+    let refusal = relr_write(8, &[4, 5], &mut []).unwrap_err();
+    assert_eq!(refusal.kind(), Kind::Odd);
+    assert_eq!(refusal.to_string(), "refused 10 at 1: odd offset");
+    let refusal = relr_write(8, &[4], &mut []).unwrap_err();
+    assert_eq!(refusal.to_string(), "refused 9 at 0: too little room, 8 needed");
+}

@@ -1,0 +1,260 @@
+//! One call of the corpus: its bytes in `corpus.bin`, its running, its line in
+//! `expected.txt`. The format is told in FORMAT.md and at the top of
+//! `src/bin/corpus.rs`.
+
+use crate::{
+    Answer, apa1_read, apa1_write, apr1_read, apr1_write, relleb_read, relleb_write, relr_apply,
+    relr_read, relr_write,
+};
+
+pub const RELR_READ: u8 = 0;
+pub const RELR_WRITE: u8 = 1;
+pub const RELR_APPLY: u8 = 2;
+pub const APR1_READ: u8 = 3;
+pub const APR1_WRITE: u8 = 4;
+pub const APA1_READ: u8 = 5;
+pub const APA1_WRITE: u8 = 6;
+pub const RELLEB_READ: u8 = 7;
+pub const RELLEB_WRITE: u8 = 8;
+
+pub const NAMES: [&str; 9] = [
+    "relr_read",
+    "relr_write",
+    "relr_apply",
+    "apr1_read",
+    "apr1_write",
+    "apa1_read",
+    "apa1_write",
+    "relleb_read",
+    "relleb_write",
+];
+
+/// What every byte of a lent column or table holds before a call.
+pub const FILL: u8 = 0xA5;
+
+#[derive(Clone, PartialEq, Eq, Debug)]
+pub struct Case {
+    pub call: u8,
+    pub class: u32,
+    pub base: u64,
+    pub input: Vec<u8>,
+    pub offsets: Vec<u64>,
+    pub types: Vec<u32>,
+    pub symbols: Vec<u32>,
+    pub addends: Vec<i64>,
+    pub bytes: Vec<u8>,
+}
+
+pub fn is_write(call: u8) -> bool {
+    [RELR_WRITE, APR1_WRITE, APA1_WRITE, RELLEB_WRITE].contains(&call)
+}
+
+impl Case {
+    fn empty(call: u8, class: u32) -> Case {
+        Case {
+            call,
+            class,
+            base: 0,
+            input: Vec::new(),
+            offsets: Vec::new(),
+            types: Vec::new(),
+            symbols: Vec::new(),
+            addends: Vec::new(),
+            bytes: Vec::new(),
+        }
+    }
+
+    /// A read of `table` into columns of these lengths: offsets, types,
+    /// symbols, addends.
+    pub fn read(call: u8, class: u32, table: &[u8], rooms: [usize; 4]) -> Case {
+        Case {
+            input: table.to_vec(),
+            offsets: vec![u64::from_le_bytes([FILL; 8]); rooms[0]],
+            types: vec![u32::from_le_bytes([FILL; 4]); rooms[1]],
+            symbols: vec![u32::from_le_bytes([FILL; 4]); rooms[2]],
+            addends: vec![i64::from_le_bytes([FILL; 8]); rooms[3]],
+            ..Case::empty(call, class)
+        }
+    }
+
+    /// A read with `room` in each column that the call has.
+    pub fn read_into(call: u8, class: u32, table: &[u8], room: usize) -> Case {
+        let rooms = match call {
+            APA1_READ => [room, 0, 0, room],
+            RELLEB_READ => [room; 4],
+            _ => [room, 0, 0, 0],
+        };
+        Case::read(call, class, table, rooms)
+    }
+
+    /// A write of offsets alone into a table of `room` bytes.
+    pub fn write(call: u8, class: u32, offsets: &[u64], room: usize) -> Case {
+        Case { offsets: offsets.to_vec(), bytes: vec![FILL; room], ..Case::empty(call, class) }
+    }
+
+    pub fn with_types(mut self, types: &[u32]) -> Case {
+        self.types = types.to_vec();
+        self
+    }
+
+    pub fn with_symbols(mut self, symbols: &[u32]) -> Case {
+        self.symbols = symbols.to_vec();
+        self
+    }
+
+    pub fn with_addends(mut self, addends: &[i64]) -> Case {
+        self.addends = addends.to_vec();
+        self
+    }
+
+    pub fn apply(class: u32, table: &[u8], base: u64, image: &[u8]) -> Case {
+        Case {
+            base,
+            input: table.to_vec(),
+            bytes: image.to_vec(),
+            ..Case::empty(RELR_APPLY, class)
+        }
+    }
+
+    /// The answer of the call, and the case with what it left in the lent
+    /// buffers.
+    pub fn run(&self) -> (Answer, Case) {
+        let mut c = self.clone();
+        let (o, t, s, a) = (&mut c.offsets, &mut c.types, &mut c.symbols, &mut c.addends);
+        let answer = match self.call {
+            RELR_READ => relr_read(c.class, &c.input, o),
+            RELR_WRITE => relr_write(c.class, o, &mut c.bytes),
+            RELR_APPLY => relr_apply(c.class, &c.input, c.base, &mut c.bytes),
+            APR1_READ => apr1_read(&c.input, o),
+            APR1_WRITE => apr1_write(o, &mut c.bytes),
+            APA1_READ => apa1_read(&c.input, o, a),
+            APA1_WRITE => apa1_write(o, a, &mut c.bytes),
+            RELLEB_READ => relleb_read(c.class, &c.input, o, t, s, a),
+            RELLEB_WRITE => relleb_write(c.class, o, t, s, a, &mut c.bytes),
+            _ => panic!("no such call"),
+        };
+        (answer, c)
+    }
+
+    /// The contents of the lent output buffers: the columns of a read, the
+    /// table of a write, the image of an apply.
+    pub fn output(&self) -> Vec<u8> {
+        let mut out = Vec::new();
+        if !is_write(self.call) {
+            self.put_columns(&mut out);
+        }
+        out.extend_from_slice(&self.bytes);
+        out
+    }
+
+    fn put_columns(&self, out: &mut Vec<u8>) {
+        out.extend(self.offsets.iter().flat_map(|v| v.to_le_bytes()));
+        out.extend(self.types.iter().flat_map(|v| v.to_le_bytes()));
+        out.extend(self.symbols.iter().flat_map(|v| v.to_le_bytes()));
+        out.extend(self.addends.iter().flat_map(|v| v.to_le_bytes()));
+    }
+
+    /// The case's line of `expected.txt`, without its line feed.
+    pub fn line(&self) -> String {
+        let (answer, after) = self.run();
+        let hash = fnv1a(&after.output());
+        let Answer { number, place, count } = answer;
+        format!("{number} {place} {count} {hash:016x}")
+    }
+
+    /// The case's bytes of `corpus.bin`.
+    pub fn encode(&self, out: &mut Vec<u8>) {
+        out.push(self.call);
+        out.extend(self.class.to_le_bytes());
+        out.extend(self.base.to_le_bytes());
+        put_u32(self.input.len(), out);
+        out.extend_from_slice(&self.input);
+        put_u32(self.offsets.len(), out);
+        put_u32(self.types.len(), out);
+        put_u32(self.symbols.len(), out);
+        put_u32(self.addends.len(), out);
+        if is_write(self.call) {
+            self.put_columns(out);
+        }
+        put_u32(self.bytes.len(), out);
+        if self.call == RELR_APPLY {
+            out.extend_from_slice(&self.bytes);
+        }
+    }
+}
+
+fn put_u32(value: usize, out: &mut Vec<u8>) {
+    out.extend((value as u32).to_le_bytes());
+}
+
+/// The 64-bit FNV-1a hash.
+pub fn fnv1a(bytes: &[u8]) -> u64 {
+    let mut hash = 0xCBF2_9CE4_8422_2325u64;
+    for byte in bytes {
+        hash ^= *byte as u64;
+        hash = hash.wrapping_mul(0x0000_0100_0000_01B3);
+    }
+    hash
+}
+
+/// All cases of a `corpus.bin`.
+pub fn decode(file: &[u8]) -> Vec<Case> {
+    let mut from = From { file, next: 0 };
+    let mut cases = Vec::new();
+    while from.next < file.len() {
+        cases.push(from.case());
+    }
+    cases
+}
+
+struct From<'a> {
+    file: &'a [u8],
+    next: usize,
+}
+
+impl From<'_> {
+    fn take(&mut self, count: usize) -> &[u8] {
+        let taken = &self.file[self.next..self.next + count];
+        self.next += count;
+        taken
+    }
+
+    fn array<const N: usize>(&mut self) -> [u8; N] {
+        self.take(N).try_into().unwrap()
+    }
+
+    fn u32(&mut self) -> u32 {
+        u32::from_le_bytes(self.array())
+    }
+
+    fn u64(&mut self) -> u64 {
+        u64::from_le_bytes(self.array())
+    }
+
+    fn size(&mut self) -> usize {
+        self.u32() as usize
+    }
+
+    fn case(&mut self) -> Case {
+        let call = self.array::<1>()[0];
+        let class = self.u32();
+        let base = self.u64();
+        let length = self.size();
+        let input = self.take(length).to_vec();
+        let rooms = [self.size(), self.size(), self.size(), self.size()];
+        let mut case = Case::read(call, class, &input, rooms);
+        case.base = base;
+        if is_write(call) {
+            case.offsets = (0..rooms[0]).map(|_| self.u64()).collect();
+            case.types = (0..rooms[1]).map(|_| self.u32()).collect();
+            case.symbols = (0..rooms[2]).map(|_| self.u32()).collect();
+            case.addends = (0..rooms[3]).map(|_| self.u64() as i64).collect();
+        }
+        let length = self.size();
+        case.bytes = match call {
+            RELR_APPLY => self.take(length).to_vec(),
+            _ => vec![FILL; length],
+        };
+        case
+    }
+}

@@ -1,0 +1,29 @@
+//! The corpus: calls with the answers expected of them.
+
+pub mod case;
+pub mod generate;
+pub mod hand;
+pub mod hand_apa1;
+pub mod hand_apr1;
+pub mod hand_relleb;
+pub mod hand_relr;
+pub mod pairs;
+pub mod rng;
+pub mod tables;
+
+use case::Case;
+
+/// A case and what it is there for.
+pub struct Named {
+    pub name: String,
+    pub case: Case,
+}
+
+/// Every case, in the order of the file: hand-made, then swept, then
+/// generated.
+pub fn all() -> Vec<Named> {
+    let mut cases = hand::cases();
+    cases.extend(generate::sweeps());
+    cases.extend(generate::generated());
+    cases
+}

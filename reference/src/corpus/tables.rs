@@ -1,0 +1,42 @@
+//! Byte forms for making tables, also such as the writers never make.
+
+use crate::leb::{self, Kind};
+
+/// RELR words in the little-endian bytes of the class (eight for a bad
+/// class).
+pub fn relr_bytes(class: u32, words: &[u64]) -> Vec<u8> {
+    let size = if class == 4 { 4 } else { 8 };
+    let mut table = Vec::new();
+    for word in words {
+        table.extend_from_slice(&word.to_le_bytes()[..size]);
+    }
+    table
+}
+
+/// A number in its shortest form.
+pub fn number(kind: Kind, value: i128) -> Vec<u8> {
+    let mut bytes = Vec::new();
+    if kind.signed() {
+        leb::write_signed(value as i64, &mut bytes);
+    } else {
+        leb::write_unsigned(value as u64, &mut bytes);
+    }
+    bytes
+}
+
+/// A number with up to `more` bytes of padding, inside its allowed length.
+pub fn padded(kind: Kind, value: i128, more: usize) -> Vec<u8> {
+    let mut bytes = number(kind, value);
+    let length = kind.most_bytes().min(bytes.len() + more);
+    let fill = if value < 0 { 0x7F } else { 0 };
+    while bytes.len() < length {
+        *bytes.last_mut().unwrap() |= 0x80;
+        bytes.push(fill);
+    }
+    bytes
+}
+
+/// Pieces of bytes, one behind the other.
+pub fn join(pieces: &[&[u8]]) -> Vec<u8> {
+    pieces.concat()
+}

@@ -1,0 +1,143 @@
+//! LEB128 numbers.
+
+use reference::Answer;
+use reference::corpus::rng::Rng;
+use reference::leb::{self, Kind, Kind::Signed, Kind::Unsigned};
+
+const KINDS: [Kind; 5] = [Unsigned(32), Signed(32), Signed(33), Unsigned(64), Signed(64)];
+
+fn refused(number: u32, place: u64) -> Result<(i128, usize), Answer> {
+    Err(Answer { number, place, count: 0 })
+}
+
+/// The examples that the DWARF standard prints.
+#[test]
+fn dwarf_examples() {
+    let unsigned: [(u64, &[u8]); 6] = [
+        (2, &[0x02]),
+        (127, &[0x7F]),
+        (128, &[0x80, 0x01]),
+        (129, &[0x81, 0x01]),
+        (130, &[0x82, 0x01]),
+        (12857, &[0xB9, 0x64]),
+    ];
+    for (value, bytes) in unsigned {
+        let mut made = Vec::new();
+        leb::write_unsigned(value, &mut made);
+        assert_eq!(made, bytes);
+        assert_eq!(leb::read(bytes, 0, Unsigned(32)), Ok((value as i128, bytes.len())));
+        assert_eq!(leb::read(bytes, 0, Unsigned(64)), Ok((value as i128, bytes.len())));
+    }
+    let signed: [(i64, &[u8]); 8] = [
+        (2, &[0x02]),
+        (-2, &[0x7E]),
+        (127, &[0xFF, 0x00]),
+        (-127, &[0x81, 0x7F]),
+        (128, &[0x80, 0x01]),
+        (-128, &[0x80, 0x7F]),
+        (129, &[0x81, 0x01]),
+        (-129, &[0xFF, 0x7E]),
+    ];
+    for (value, bytes) in signed {
+        let mut made = Vec::new();
+        leb::write_signed(value, &mut made);
+        assert_eq!(made, bytes);
+        for width in [32, 33, 64] {
+            let got = leb::read(bytes, 0, Signed(width));
+            assert_eq!(got, Ok((value as i128, bytes.len())));
+        }
+    }
+}
+
+/// The value of bytes taken as one number, of whatever width.
+fn value_of(kind: Kind, bytes: &[u8]) -> i128 {
+    let mut value = 0i128;
+    for byte in bytes.iter().rev() {
+        value = value * 128 + (byte % 128) as i128;
+    }
+    let negative = kind.signed() && bytes[bytes.len() - 1] % 128 >= 64;
+    if negative { value - 128i128.pow(bytes.len() as u32) } else { value }
+}
+
+fn within(kind: Kind, value: i128) -> bool {
+    match kind {
+        Unsigned(width) => (0..1 << width).contains(&value),
+        Signed(width) => (-(1 << (width - 1))..1 << (width - 1)).contains(&value),
+    }
+}
+
+/// The table of last bytes says the same as the ends of the width, at every
+/// byte, whatever stands before.
+#[test]
+fn last_byte_at_every_value() {
+    let mut rng = Rng::new(1);
+    for kind in KINDS {
+        for byte in 0..=255u8 {
+            for fill in [0x80, 0xFF, rng.draw() as u8 | 0x80] {
+                let mut bytes = vec![fill; kind.most_bytes()];
+                *bytes.last_mut().unwrap() = byte;
+                let value = value_of(kind, &bytes);
+                let good = byte < 128 && within(kind, value);
+                assert_eq!(leb::last_byte_allowed(kind, byte), good);
+                let want = if good { Ok((value, bytes.len())) } else { refused(5, 0) };
+                assert_eq!(leb::read(&bytes, 0, kind), want);
+            }
+        }
+    }
+}
+
+#[test]
+fn most_bytes() {
+    let most: Vec<usize> = KINDS.iter().map(|kind| kind.most_bytes()).collect();
+    assert_eq!(most, [5, 5, 5, 10, 10]);
+}
+
+#[test]
+fn missing_bytes() {
+    for kind in KINDS {
+        for length in 0..kind.most_bytes() {
+            let bytes = vec![0x80; length];
+            assert_eq!(leb::read(&bytes, 0, kind), refused(4, length as u64));
+        }
+        assert_eq!(leb::read(&[0, 0], 2, kind), refused(4, 2));
+        assert_eq!(leb::read(&[0, 0], 9, kind), refused(4, 2));
+    }
+}
+
+#[test]
+fn place_and_next_place() {
+    let bytes = [9, 9, 0x80, 0x80, 0x80, 0x80, 0x10, 9];
+    assert_eq!(leb::read(&bytes, 2, Unsigned(32)), refused(5, 2));
+    assert_eq!(leb::read(&bytes, 1, Unsigned(32)), Ok((9, 2)));
+    assert_eq!(leb::read(&bytes, 2, Unsigned(64)), Ok((1 << 32, 7)));
+}
+
+/// Padding inside the allowed length changes nothing; writing is shortest.
+#[test]
+fn padding_and_shortest() {
+    use reference::corpus::tables::{number, padded};
+    let mut rng = Rng::new(2);
+    for _ in 0..2_000 {
+        for kind in KINDS {
+            let value = any(&mut rng, kind);
+            let short = number(kind, value);
+            assert_eq!(leb::read(&short, 0, kind), Ok((value, short.len())));
+            let long = padded(kind, value, rng.index(10));
+            assert_eq!(leb::read(&long, 0, kind), Ok((value, long.len())));
+            if short.len() > 1 {
+                let mut cut = short[..short.len() - 1].to_vec();
+                *cut.last_mut().unwrap() &= 0x7F;
+                assert_ne!(value_of(kind, &cut), value);
+            }
+        }
+    }
+}
+
+/// A value of the kind, of any size and sign.
+fn any(rng: &mut Rng, kind: Kind) -> i128 {
+    let size = rng.any_size() as i128;
+    match kind {
+        Unsigned(width) => size % (1 << width),
+        Signed(width) => size % (1 << width) - (1 << (width - 1)),
+    }
+}

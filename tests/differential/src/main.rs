@@ -1,0 +1,61 @@
+//! Compares every call of the library with the reference on random cases for a
+//! bounded time: `differential [--seconds N] [--seed S]`. The cases follow from
+//! the seed, which is printed first.
+
+use differential::{by_library, by_reference, generate};
+use reference::corpus::case::NAMES;
+use reference::corpus::rng::Rng;
+use std::process::ExitCode;
+use std::time::{Duration, Instant, SystemTime, UNIX_EPOCH};
+
+fn main() -> ExitCode {
+    let Some((seconds, seed)) = arguments() else {
+        eprintln!("usage: differential [--seconds N] [--seed S]");
+        return ExitCode::from(2);
+    };
+    println!("seed {seed}");
+    let end = Instant::now() + Duration::from_secs(seconds);
+    let mut rng = Rng::new(seed);
+    let mut seen = [[0u64; 16]; 9];
+    let mut cases = 0u64;
+    while Instant::now() < end {
+        let case = generate::case(&mut rng);
+        let (want, got) = (by_reference(&case), by_library(&case));
+        if want != got {
+            println!("difference in case {cases}, {}: {case:02x?}", NAMES[case.call as usize]);
+            for (name, run) in [("reference", want), ("library", got)] {
+                println!("{name}: {:?}, kept inside the buffers: {}", run.result, run.inside);
+                println!("{name} leaves {:02x?}", run.after);
+            }
+            return ExitCode::FAILURE;
+        }
+        let number = want.result.err().map_or(0, |refusal| refusal.number);
+        seen[case.call as usize][number as usize] += 1;
+        cases += 1;
+    }
+    for (name, row) in NAMES.iter().zip(seen) {
+        print!("{name}:");
+        for (number, count) in row.iter().enumerate().filter(|(_, count)| **count > 0) {
+            print!(" {number}x{count}");
+        }
+        println!();
+    }
+    println!("{cases} cases, no difference");
+    ExitCode::SUCCESS
+}
+
+/// Seconds and seed: 20 and the time, where not given.
+fn arguments() -> Option<(u64, u64)> {
+    let now = SystemTime::now().duration_since(UNIX_EPOCH).ok()?;
+    let (mut seconds, mut seed) = (20, now.as_nanos() as u64);
+    let mut arguments = std::env::args().skip(1);
+    while let Some(name) = arguments.next() {
+        let value = arguments.next()?.parse().ok()?;
+        match name.as_str() {
+            "--seconds" => seconds = value,
+            "--seed" => seed = value,
+            _ => return None,
+        }
+    }
+    Some((seconds, seed))
+}

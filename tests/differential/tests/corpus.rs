@@ -1,0 +1,29 @@
+//! The reference's corpus, and whether the random cases meet every refusal.
+
+use differential::{by_library, by_reference, generate};
+use reference::corpus::case::NAMES;
+use reference::corpus::rng::Rng;
+use reference::corpus::{all, pairs};
+
+#[test]
+fn corpus() {
+    for named in all() {
+        assert_eq!(by_library(&named.case), by_reference(&named.case), "{}", named.name);
+    }
+}
+
+/// All but 2, which needs the lengths of `limits.rs`.
+#[test]
+fn every_refusal_is_met() {
+    let mut rng = Rng::new(1);
+    let mut seen = [[false; 16]; 9];
+    for _ in 0..20_000 {
+        let case = generate::case(&mut rng);
+        seen[case.call as usize][case.run().0.number as usize] = true;
+    }
+    for (call, allowed) in pairs::ALLOWED.iter().enumerate() {
+        for number in allowed.iter().filter(|number| **number != 2) {
+            assert!(seen[call][*number as usize], "{} never met {number}", NAMES[call]);
+        }
+    }
+}
