@@ -1,0 +1,3 @@
+pub mod PutNeeds
+pub mod DecimalNeeds
+pub mod KindNeeds
