@@ -11,7 +11,8 @@ use lib.ListN.{length, set, length-set}
 use lib.Seq.{sets, set-comm}
 use lib.Signed.{mag}
 use mir.Syntax.{w64}
-use mir.Val.{Fits}
+use mir.Val.{Fits, SFits, toZ, ofZ}
+use mir.Facts.{toZ-ofZ}
 use borrow.Author.Needs.{needs}
 use Rattle.leb128.specs.Number.{isNeg}
 use Rattle.listing.specs.Text.{dash, decimal, decimalSigned}
@@ -87,17 +88,23 @@ module _ {old now : List ℕ} {at x k m : ℕ} (w : Writing old now at x k m) wh
 
 pub ruleset writings = (write-begin, write-some, write-in, write-more, write-end, needs)
 
--- ---- the sign
-module _ (x : ℤ) {old new : List ℕ} {at r size : ℕ} {neg : Bool} (e : size ≡ mag x) (n : neg ≡ isNeg x) where
+-- ---- the sign; an `i64` is handed to a callee by its bits
+abbrev pub Bits : ℤ → ℤ
+Bits z = toZ w64 (ofZ w64 z)
+
+pub plain : {x : ℤ} → SFits w64 x → Bits x ≡ x
+plain s = toZ-ofZ {w = w64} s
+
+module _ (x : ℤ) {old new : List ℕ} {at r size : ℕ} {neg : Bool} (s : SFits w64 x) (e : size ≡ mag (Bits x)) (n : neg ≡ isNeg (Bits x)) where
   pub sign-none : neg ≡ false → Puts old new at r (decimal size) 20 → Puts old new at r (decimalSigned x) 21
-  sign-none f p = record { list = p .list ∙ ap (sets old at) (same x e n f); place = p .place ∙ ap (λ (l : List ℕ). at + length l) (same x e n f); few = omega (arith, p .few, ap length (same x e n f)) }
+  sign-none f p = let g = same x (e ∙ ap mag (plain s)) (n ∙ ap isNeg (plain s)) f in rw (← g) (record { list = p .list; place = p .place; few = omega (arith, p .few) })
     where
       same : (x : ℤ) → size ≡ mag x → neg ≡ isNeg x → neg ≡ false → decimal size ≡ decimalSigned x
       same (pos k) e n f = ap decimal e ∙ sym (signed-plus k)
       same (negsuc k) e n f = let z : _≡_ {A = ℕ} 0 1 = cc in absurd (omega arith)
 
   pub sign-some : {mid : List ℕ} {next : ℕ} → neg ≡ true → Puts old mid at next (45 ∷ []) 1 → Puts mid new next r (decimal (size + 1)) 20 → Puts old new at r (decimalSigned x) 21
-  sign-some f p q = go x e n (put-put p q (omega arith))
+  sign-some f p q = go x (e ∙ ap mag (plain s)) (n ∙ ap isNeg (plain s)) (put-put p q (omega arith))
     where
       go : (x : ℤ) → size ≡ mag x → neg ≡ isNeg x → Puts old new at r (dash ++ decimal (size + 1)) 21 → Puts old new at r (decimalSigned x) 21
       go (pos k) e n s = let z : _≡_ {A = ℕ} 0 1 = cc in absurd (omega arith)

@@ -1,5 +1,5 @@
 // The lines of a list of records.
-ghost use mathlib.Core.Bool.{Bool};
+ghost use mathlib.Core.Bool.{true};
 ghost use mathlib.Core.List.{_++_};
 ghost use Prim.Native.Nat.{_+_, _*_, _≤_};
 ghost use lib.ListN.{length};
@@ -34,6 +34,24 @@ fn put_addend(page: &mut [u8], at: usize, shown: bool, x: i64) -> usize
     page::put_byte(page, next, b'-')
 }
 
+// The index of a line, and its offset.
+fn put_start(page: &mut [u8], at: usize, index: u64, offset: u64) -> usize
+    requires { ⌜ at + 42 ≤ length (now page) ⌝ }
+    ensures { λ r. ⌜ Puts (now (page .entry)) (now (page .exit)) at r (decimal index ++ field true (decimal offset)) 42 ⌝ }
+{
+    let next = decimal::put_number(&mut *page, at, index);
+    put_field(page, next, true, offset)
+}
+
+// The type and the symbol of a line.
+fn put_types(page: &mut [u8], at: usize, shown: bool, rtype: u64, symbol: u64) -> usize
+    requires { ⌜ at + 44 ≤ length (now page) ⌝ }
+    ensures { λ r. ⌜ Puts (now (page .entry)) (now (page .exit)) at r (field shown (decimal rtype) ++ field shown (decimal symbol)) 44 ⌝ }
+{
+    let next = put_field(&mut *page, at, shown, rtype);
+    put_field(page, next, shown, symbol)
+}
+
 // The line of one record.
 fn put_row(
     page: &mut [u8],
@@ -49,11 +67,10 @@ fn put_row(
     ensures { λ r. ⌜ Puts (now (page .entry)) (now (page .exit)) at r (rowText kind index (row offset rtype symbol addend)) 109 ⌝ }
 {
     let typed = kind.has_type();
-    let after_index = decimal::put_number(&mut *page, at, index);
-    let after_offset = put_field(&mut *page, after_index, true, offset);
-    let after_type = put_field(&mut *page, after_offset, typed, rtype as u64);
-    let after_symbol = put_field(&mut *page, after_type, typed, symbol as u64);
-    let after_addend = put_addend(&mut *page, after_symbol, kind.has_addend(), addend);
+    let signed = kind.has_addend();
+    let after_offset = put_start(&mut *page, at, index, offset);
+    let after_symbol = put_types(&mut *page, after_offset, typed, rtype as u64, symbol as u64);
+    let after_addend = put_addend(&mut *page, after_symbol, signed, addend);
     page::put_byte(page, after_addend, b'\n')
 }
 
