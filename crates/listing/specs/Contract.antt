@@ -10,7 +10,7 @@ use Rattle.answer.specs.declared.Answer.{Answer}
 use Rattle.answer.specs.Outcome.{Outcome, accepted, answerIn, filled}
 use Rattle.relleb.specs.Table.{Row, row}
 use Rattle.listing.specs.declared.kind.Kind.{Kind}
-use Rattle.listing.specs.Text.{textOf, decimal, rowsOf, rowText, rowAt, recordLimit}
+use Rattle.listing.specs.Text.{textOf, decimal, rowsOf, rowText, rowAt, recordLimit, tableLimit}
 
 -- `list` of an input answers r, and leaves `new` in a buffer that held `old`
 pub record Lists (input old : List ℕ) (r : Answer) (new : List ℕ) : Type 0 where
@@ -36,8 +36,14 @@ pub record Room (paper : List ℕ) (at count : ℕ) (os ts ys : List ℕ) (us : 
   pub symbols : count ≤ length ys
   pub addends : count ≤ length us
 
--- the columns of a read have room for the most records
-pub record Columns (os ts ys : List ℕ) (us : List ℤ) : Type 0 where
+-- bytes are handed out: the call answers r, and leaves `new` in a buffer that held `old`
+pub record Copies (bytes old : List ℕ) (r : Answer) (new : List ℕ) : Type 0 where
+  pub answer : r ≡ answerIn (length old) (accepted bytes)
+  pub text : new ≡ filled (λ (b : ℕ). b) (accepted bytes) old
+
+-- a table within its limit, and columns for the most records
+pub record Readable (s os ts ys : List ℕ) (us : List ℤ) : Type 0 where
+  pub table : length s ≤ tableLimit
   pub offsets : length os ≡ recordLimit
   pub types : length ts ≡ recordLimit
   pub symbols : length ys ≡ recordLimit
