@@ -6,13 +6,13 @@ use mathlib.Core.List.{List, [], _∷_, _++_}
 use native.Mathlib.Numerals.{add-one}
 use native.Mathlib.Omega.{arith}
 use lib.ListN.{length, take, drop, getD, set}
-use lib.Seq.{take-suc, take-append-seam, length-take-le, sets, sets-eq}
+use lib.Seq.{take-suc, length-take-le}
 use borrow.Author.Needs.{needs}
 use Rattle.answer.specs.declared.Answer.{Answer}
 use Rattle.answer.specs.Outcome.{Outcome, accepted, success, noRoom}
 use Rattle.answer.specs.Outcome.Laws.{Counted, answer-fits, answer-long, filled-self, filled-long, buffer-more, buffer-long}
 use Rattle.listing.specs.Text.{textOf}
-use Rattle.listing.specs.Contract.{Puts, Copies, Lists}
+use Rattle.listing.specs.Contract.{Shows, Copies, Lists}
 
 -- ---- the first i bytes are copied
 pub record Copying (page old now : List ℕ) (count i : ℕ) : Type 0 where
@@ -65,20 +65,9 @@ module _ {page old now : List ℕ} {count i : ℕ} (c : Copying page old now cou
 pub ruleset copies = (copy-begin, copy-long, copy-same, copy-in, copy-more, copy-end, needs)
 
 -- ---- the page's text
-module _ {old page t : List ℕ} {count : ℕ} (p : Puts old page 0 count t 131072) (room : 131072 ≤ length old) where
-  pub text-take : take count page ≡ t
-  text-take =
-      let e : count ≡ length t = omega (arith, p .place) in
-      ap (take count) (p .list ∙ sets-eq t old 0 (omega (arith, p .few))) ∙ ap (λ (n : ℕ). take n (t ++ drop (0 + length t) old)) e ∙ take-append-seam t (drop (0 + length t) old)
-
-  pub text-within : length page ≡ length old → count ≤ length page
-  text-within e = omega (arith, p .place, p .few)
-
-pub listed : (input lent : List ℕ) {old page new : List ℕ} {count : ℕ} {r : Answer} → Puts old page 0 count (textOf input) 131072 → 131072 ≤ length old
-    → Copies (take count page) lent r new → Lists input lent r new
-listed input lent {old} {page} {new} {count} {r} p room c =
-    let e = text-take p room in
-    let d : Copies (textOf input) lent r new = rw (← e) c in
+pub listed : (input lent : List ℕ) {page new : List ℕ} {count : ℕ} {r : Answer} → Shows page count (textOf input) → Copies (take count page) lent r new → Lists input lent r new
+listed input lent {page} {new} {count} {r} s c =
+    let d : Copies (textOf input) lent r new = rw (← s .is) c in
     record { answer = d .answer; text = d .text }
 
-pub ruleset listings = (text-within, listed, needs)
+pub ruleset listings = (listed, needs)

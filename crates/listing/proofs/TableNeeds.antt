@@ -1,6 +1,6 @@
 -- The readers' answers and columns, and the text of a table, as the code asks it.
 -- Assumes nothing.
-use Prim.Native.Nat.{ℕ, _+_, _*_, _≤_, _<_}
+use Prim.Native.Nat.{ℕ, _+_, _-_, _*_, _≤_, _<_}
 use mathlib.Core.Path.{_≡_, refl, ap, sym, _∙_}
 use mathlib.Core.Bool.{Bool, true, false}
 use mathlib.Core.List.{List, [], _∷_, _++_, map}
@@ -8,7 +8,8 @@ use native.Mathlib.Decide.{decLt}
 use native.Mathlib.Omega.{arith}
 use lib.Dec.{leb}
 use lib.IntN.{ℤ, pos}
-use lib.ListN.{length, drop, getD, length-map, List·getD-append, List·getD-map}
+use lib.ListN.{length, take, drop, getD, length-drop, length-map, List·getD-append, List·getD-map}
+use lib.Seq.{take-all, take-append-seam, sets, sets-eq, length-sets}
 use borrow.Author.Needs.{needs}
 use Rattle.answer.specs.declared.Answer.{Answer}
 use Rattle.answer.specs.declared.Refusal.the-variants.{Identifier}
@@ -34,7 +35,7 @@ use Rattle.listing.specs.declared.kind.Line.{Line}
 use Rattle.listing.specs.declared.kind.Line.the-variants.{Names, Unknown}
 use Rattle.listing.specs.Text.{decimal, lineOf, tried, firstLine, hasType, hasAddend, offsetRow, pairRow, mapped, rowsOf, header, tab, feed, refusedWord, rowText, rowsFrom, rowAt, rowsTo, refusalText, recordLimit, tableLimit, printed, textOf}
 use Rattle.listing.specs.Text.Laws.{answer-mapped, Source, source, offset-line, pair-line, rows-all, printed-rows, printed-refusal, text-unknown, text-limit, text-table}
-use Rattle.listing.specs.Contract.{Puts, Room, Readable, Reads}
+use Rattle.listing.specs.Contract.{Puts, Room, Readable, Reads, Shows}
 use Rattle.listing.proofs.PutNeeds.{put-put}
 
 abbrev none : Row
@@ -55,11 +56,11 @@ module _ (k : Kind) (s os ts ys : List ℕ) (us : List ℤ) {r : Answer} {os′ 
       record {
         answer = q ∙ ap (λ (n : ℕ). answerIn n o) m ∙ sym (answer-mapped offsetRow recordLimit o) ∙ ap (answerIn recordLimit) (sym e);
         lines = λ l g h i j.
-          let v = source offsetRow o (sym e ∙ g) in
-          let n : length l ≡ length (v .list) = ap length (v .made) ∙ length-map (v .list) offsetRow in
-          let p : getD l i none ≡ offsetRow (getD (v .list) i 0) = ap (λ (w : List Row). getD w i none) (v .made) ∙ List·getD-map offsetRow (v .list) i 0 in
-          offset-line k i (rowAt os′ ts ys us i) (getD l i none) t a
-          (column-at (λ (x : ℕ). x) 0 os (v .list) c (v .is) (omega arith) i (omega arith) ∙ sym (ap (λ (x : Row). x .offset) p));
+            let v = source offsetRow o (sym e ∙ g) in
+            let n : length l ≡ length (v .list) = ap length (v .made) ∙ length-map (v .list) offsetRow in
+            let p : getD l i none ≡ offsetRow (getD (v .list) i 0) = ap (λ (w : List Row). getD w i none) (v .made) ∙ List·getD-map offsetRow (v .list) i 0 in
+            offset-line k i (rowAt os′ ts ys us i) (getD l i none) t a
+            (column-at (λ (x : ℕ). x) 0 os (v .list) c (v .is) (omega arith) i (omega arith) ∙ sym (ap (λ (x : Row). x .offset) p));
       }
 
 module _ (s os ts ys : List ℕ) (us : List ℤ) {k : Kind} {r : Answer} {os′ : List ℕ} (f : Readable s os ts ys us) where
@@ -85,12 +86,12 @@ module _ (s os ts ys : List ℕ) (us : List ℤ) {k : Kind} {r : Answer} {os′ 
       (record {
         answer = c .answer ∙ ap (answerIn (length os)) o ∙ ap (λ (n : ℕ). answerIn n (apa1.decode s)) (f .offsets) ∙ sym (answer-mapped pairRow recordLimit (apa1.decode s));
         lines = λ l g h i j.
-          let v = source pairRow (apa1.decode s) g in
-          let n : length l ≡ length (v .list) = ap length (v .made) ∙ length-map (v .list) pairRow in
-          let p : getD l i none ≡ pairRow (getD (v .list) i apa1.start) = ap (λ (w : List Row). getD w i none) (v .made) ∙ List·getD-map pairRow (v .list) i apa1.start in
-          pair-line Apa1 i (rowAt os′ ts ys us′ i) (getD l i none) refl
-          (column-at apa1-contract.offsetOf apa1.start os (v .list) (c .columns .offsets) (o ∙ v .is) (omega (arith, f .offsets)) i (omega arith) ∙ sym (ap (λ (x : Row). x .offset) p))
-          (column-at apa1-contract.addendOf apa1.start us (v .list) (c .columns .addends) (o ∙ v .is) (omega (arith, f .addends)) i (omega arith) ∙ sym (ap (λ (x : Row). x .addend) p));
+            let v = source pairRow (apa1.decode s) g in
+            let n : length l ≡ length (v .list) = ap length (v .made) ∙ length-map (v .list) pairRow in
+            let p : getD l i none ≡ pairRow (getD (v .list) i apa1.start) = ap (λ (w : List Row). getD w i none) (v .made) ∙ List·getD-map pairRow (v .list) i apa1.start in
+            pair-line Apa1 i (rowAt os′ ts ys us′ i) (getD l i none) refl
+            (column-at apa1-contract.offsetOf apa1.start os (v .list) (c .columns .offsets) (o ∙ v .is) (omega (arith, f .offsets)) i (omega arith) ∙ sym (ap (λ (x : Row). x .offset) p))
+            (column-at apa1-contract.addendOf apa1.start us (v .list) (c .columns .addends) (o ∙ v .is) (omega (arith, f .addends)) i (omega arith) ∙ sym (ap (λ (x : Row). x .addend) p));
       })
 
 -- ---- whole records
@@ -105,15 +106,15 @@ module _ (s os ts ys : List ℕ) (us : List ℤ) {k : Kind} {r : Answer} {os′ 
       record {
         answer = d .answer ∙ ap (answerIn (length os)) o ∙ ap (λ (n : ℕ). answerIn n (rowsOf k s)) (f .offsets);
         lines = λ l g h i j.
-          let a = column-at relleb-contract.offsetIn none os l (d .columns .offsets) (o ∙ g) (omega (arith, f .offsets)) i j in
-          let b = column-at relleb-contract.typeIn none ts l (d .columns .types) (o ∙ g) (omega (arith, f .types)) i j in
-          let y = column-at relleb-contract.symbolIn none ys l (d .columns .symbols) (o ∙ g) (omega (arith, f .symbols)) i j in
-          let z = column-at relleb-contract.addendIn none us l (d .columns .addends) (o ∙ g) (omega (arith, f .addends)) i j in
-          ap (rowText k i)
-          (ap (λ (x : ℕ). row x (getD ts′ i 0) (getD ys′ i 0) (getD us′ i (pos 0))) a
-          ∙ ap (λ (x : ℕ). row (getD l i none .offset) x (getD ys′ i 0) (getD us′ i (pos 0))) b
-          ∙ ap (λ (x : ℕ). row (getD l i none .offset) (getD l i none .type) x (getD us′ i (pos 0))) y
-          ∙ ap (row (getD l i none .offset) (getD l i none .type) (getD l i none .symbol)) z);
+            let a = column-at relleb-contract.offsetIn none os l (d .columns .offsets) (o ∙ g) (omega (arith, f .offsets)) i j in
+            let b = column-at relleb-contract.typeIn none ts l (d .columns .types) (o ∙ g) (omega (arith, f .types)) i j in
+            let y = column-at relleb-contract.symbolIn none ys l (d .columns .symbols) (o ∙ g) (omega (arith, f .symbols)) i j in
+            let z = column-at relleb-contract.addendIn none us l (d .columns .addends) (o ∙ g) (omega (arith, f .addends)) i j in
+            ap (rowText k i)
+            (ap (λ (x : ℕ). row x (getD ts′ i 0) (getD ys′ i 0) (getD us′ i (pos 0))) a
+            ∙ ap (λ (x : ℕ). row (getD l i none .offset) x (getD ys′ i 0) (getD us′ i (pos 0))) b
+            ∙ ap (λ (x : ℕ). row (getD l i none .offset) (getD l i none .type) x (getD us′ i (pos 0))) y
+            ∙ ap (row (getD l i none .offset) (getD l i none .type) (getD l i none .symbol)) z);
       }
 
   pub relleb-four : k ≡ Relleb32 → relleb-contract.Reads 4 s os ts ys us r os′ ts′ ys′ us′ → Reads k s r os′ ts′ ys′ us′
@@ -157,6 +158,12 @@ module _ (k : Kind) (s : List ℕ) {os ts ys : List ℕ} {us : List ℤ} {r : An
   pub table-few : r .number ≡ 0 → r .count ≤ recordLimit
   table-few n = omega (arith, counted n, good n .fits)
 
+  pub table-room : {page : List ℕ} → r .number ≡ 0 → 131072 ≤ length page → length os ≡ recordLimit → length ts ≡ recordLimit → length ys ≡ recordLimit → length us ≡ recordLimit
+      → Room page 29 (r .count) os ts ys us
+  table-room n h a b y z =
+      let f = table-few n in
+      record { page = omega arith; offsets = omega arith; types = omega arith; symbols = omega arith; addends = omega arith }
+
   pub table-listed : {old new : List ℕ} {past : ℕ} → r .number ≡ 0 → Puts old new 0 past (header ++ rowsTo k os ts ys us (r .count)) (29 + 109 * r .count) → Puts old new 0 past (printed k (rowsOf k s)) 131072
   table-listed n p =
       let g = good n in
@@ -167,9 +174,17 @@ module _ (k : Kind) (s : List ℕ) {os ts ys : List ℕ} {us : List ℤ} {r : An
       ∙ sym (printed-rows k (g .is) (g .fits)))
       (omega (arith, g .fits))
 
-pub ruleset tables = (table-refused, table-few, table-listed, needs)
+pub ruleset tables = (table-refused, table-few, table-room, table-listed, needs)
 
 -- ---- the text of an input
+shown : {old page t : List ℕ} {count : ℕ} → Puts old page 0 count t 131072 → 131072 ≤ length old → Shows page count t
+shown {old} {page} {t} {count} p room =
+    let e : count ≡ length t = omega (arith, p .place) in
+    record {
+      is = ap (take count) (p .list ∙ sets-eq t old 0 (omega (arith, p .few))) ∙ ap (λ (n : ℕ). take n (t ++ drop (0 + length t) old)) e ∙ take-append-seam t (drop (0 + length t) old);
+      within = omega (arith, p .few, ap length (p .list), length-sets old 0 t);
+    }
+
 tried-starts : (s : List ℕ) (j : Kind) (rest : Line) (k : Kind) → tried j s rest ≡ Names k → (rest ≡ Names k → startsWith (lineOf k) s ≡ true) → startsWith (lineOf k) s ≡ true
 tried-starts s j rest k e g = go (startsWith (lineOf j) s) refl e
   where
@@ -186,19 +201,23 @@ line-starts s k e =
 module _ (s : List ℕ) {line : Line} {k : Kind} {at : ℕ} (e : line ≡ firstLine s) (n : line ≡ Names k) (a : at ≡ length (lineOf k)) where
   pub line-within : at ≤ length s
   line-within = elim (decLt (length s) (length (lineOf k))) [
-    yes h ↦ let z : _≡_ {A = Bool} true false = sym (line-starts s k (sym e ∙ n)) ∙ starts-short (lineOf k) s h in let y : _≡_ {A = ℕ} 0 1 = cc in absurd (omega arith)
-    | no h ↦ omega arith ]
+    | yes h ↦ let z : _≡_ {A = Bool} true false = sym (line-starts s k (sym e ∙ n)) ∙ starts-short (lineOf k) s h in let y : _≡_ {A = ℕ} 0 1 = cc in absurd (omega arith)
+    | no h ↦ omega arith
+  ]
 
-  module _ {old new : List ℕ} {past : ℕ} where
-    pub text-over : tableLimit < length (drop at s) → Puts old new 0 past (refusalText 2 0) 50 → Puts old new 0 past (textOf s) 131072
-    text-over h p = same-puts p (text-limit s e n (rw (← a) h)) (omega arith)
+  -- the part of the input behind the line, as the code takes it
+  part : take (length s - at) (drop at s) ≡ drop (length (lineOf k)) s
+  part = take-all (length s - at) (drop at s) (omega (arith, length-drop at s)) ∙ ap (λ (m : ℕ). drop m s) a
 
-    pub text-whole : length (drop at s) ≤ tableLimit → Puts old new 0 past (printed k (rowsOf k (drop at s))) 131072 → Puts old new 0 past (textOf s) 131072
-    text-whole h p =
-        let f : printed k (rowsOf k (drop at s)) ≡ textOf s = rw a (text-table s e n (rw (← a) h)) in
-        same-puts p f (omega arith)
+  module _ {old new : List ℕ} {past : ℕ} (room : 131072 ≤ length old) where
+    pub text-over : tableLimit < length (take (length s - at) (drop at s)) → Puts old new 0 past (refusalText 2 0) 50 → Shows new past (textOf s)
+    text-over h p = shown (same-puts p (text-limit s e n (rw part at h)) (omega arith)) room
 
-pub text-none : (s : List ℕ) {line : Line} {old new : List ℕ} {past : ℕ} → line ≡ firstLine s → line ≡ Unknown → Puts old new 0 past (refusalText 1 0) 50 → Puts old new 0 past (textOf s) 131072
-text-none s e u p = same-puts p (text-unknown s e u) (omega arith)
+    pub text-whole : length (take (length s - at) (drop at s)) ≤ tableLimit → Puts old new 0 past (printed k (rowsOf k (take (length s - at) (drop at s)))) 131072 → Shows new past (textOf s)
+    text-whole h p = shown (same-puts p (ap (λ (t : List ℕ). printed k (rowsOf k t)) part ∙ text-table s e n (rw part at h)) (omega arith)) room
+
+pub text-none : (s : List ℕ) {line : Line} {old new : List ℕ} {past : ℕ} → 131072 ≤ length old → line ≡ firstLine s → line ≡ Unknown
+    → Puts old new 0 past (refusalText 1 0) 50 → Shows new past (textOf s)
+text-none s room e u p = shown (same-puts p (text-unknown s e u) (omega arith)) room
 
 pub ruleset texts = (line-within, text-over, text-whole, text-none, needs)

@@ -4,7 +4,7 @@ use Prim.Native.Nat.{ℕ, _+_, _*_, _≤_, _<_}
 use mathlib.Core.Path.{_≡_}
 use mathlib.Core.List.{List}
 use lib.IntN.{ℤ, pos}
-use lib.ListN.{length, getD}
+use lib.ListN.{length, take, getD}
 use lib.Seq.{sets}
 use Rattle.answer.specs.declared.Answer.{Answer}
 use Rattle.answer.specs.Outcome.{Outcome, accepted, answerIn, filled}
@@ -22,6 +22,11 @@ pub record Puts (old new : List ℕ) (at next : ℕ) (bytes : List ℕ) (most : 
   pub list : new ≡ sets old at bytes
   pub place : next ≡ at + length bytes
   pub few : length bytes ≤ most
+
+-- a text stands at the front of a page
+pub record Shows (page : List ℕ) (count : ℕ) (text : List ℕ) : Type 0 where
+  pub is : take count page ≡ text
+  pub within : count ≤ length page
 
 -- a number has r digits, and no more than 20
 pub record Sized (x r : ℕ) : Type 0 where

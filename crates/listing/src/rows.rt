@@ -95,7 +95,16 @@ fn put_rows(
         let rtype = types[i];
         let symbol = symbols[i];
         let addend = addends[i];
-        next = put_row(&mut *page, next, kind, i as u64, offset, rtype, symbol, addend);
+        next = put_row(
+            &mut *page,
+            next,
+            kind,
+            i as u64,
+            offset,
+            rtype,
+            symbol,
+            addend,
+        );
         i += 1;
     }
     next

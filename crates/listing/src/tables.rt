@@ -2,7 +2,7 @@
 ghost use Prim.Native.Nat.{_≤_};
 ghost use lib.ListN.{length};
 ghost use Rattle.listing.specs.Text.{printed, rowsOf, refusalText, tableLimit, textOf};
-ghost use Rattle.listing.specs.Contract.{Puts, Readable, Reads};
+ghost use Rattle.listing.specs.Contract.{Puts, Readable, Reads, Shows};
 use crate::decimal;
 use crate::kind;
 use crate::kind::Kind;
@@ -60,7 +60,14 @@ fn put_table(page: &mut [u8], kind: Kind, table: &[u8]) -> usize
     let mut types = [0u32; 1024];
     let mut symbols = [0u32; 1024];
     let mut addends = [0i64; 1024];
-    let answer = read(kind, table, &mut offsets, &mut types, &mut symbols, &mut addends);
+    let answer = read(
+        kind,
+        table,
+        &mut offsets,
+        &mut types,
+        &mut symbols,
+        &mut addends,
+    );
     let number = answer.number;
     if number != 0 {
         return put_refusal(page, number, answer.place);
@@ -72,7 +79,7 @@ fn put_table(page: &mut [u8], kind: Kind, table: &[u8]) -> usize
 // The text of an input.
 pub fn put_text(page: &mut [u8], input: &[u8]) -> usize
     requires { ⌜ 131072 ≤ length (now page) ⌝ }
-    ensures { λ r. ⌜ Puts (now (page .entry)) (now (page .exit)) 0 r (textOf (now (input .entry))) 131072 ⌝ }
+    ensures { λ r. ⌜ Shows (now (page .exit)) r (textOf (now (input .entry))) ⌝ }
 {
     let line = kind::first_line(input);
     let Line::Names(kind) = line else {

@@ -1,4 +1,4 @@
-use Rattle.listing.proofs.TableNeeds.{refusals}
+use Rattle.listing.proofs.TableNeeds.{refusal-put}
 use borrow.Author.Needs.{needs}
 use Rattle.listing.proofs.tables.put_refusal.Statement.{statement}
 use Rattle.listing.proofs.tables.put_refusal.Tie as tie
@@ -38,7 +38,12 @@ same-length c = search needs
 
 -- src/tables.rt:43:1
 returns : tie.Need-returns
-returns c = search refusals
+returns c =
+    let e = c .before .before in
+    let d = e .before .before .before .before in
+    let b = d .before .before .before .before in
+    let a = b .before .before .before .before in
+    refusal-put _ _ (e .put-byte2 .ensures) (d .put-number2 .ensures) (b .put-byte .ensures) (a .put-number .ensures) (a .before .before .before .before .put .ensures)
 
 pub put-refusal-spec : {M : Type 1} → statement M
 put-refusal-spec =
