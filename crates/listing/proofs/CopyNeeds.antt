@@ -11,7 +11,7 @@ use borrow.Author.Needs.{needs}
 use Rattle.answer.specs.declared.Answer.{Answer}
 use Rattle.answer.specs.Outcome.{Outcome, accepted, success, noRoom}
 use Rattle.answer.specs.Outcome.Laws.{Counted, answer-fits, answer-long, filled-self, filled-long, buffer-more, buffer-long}
-use Rattle.listing.specs.Text.{textOf}
+use Rattle.listing.specs.Text.{textOf, textRoom}
 use Rattle.listing.specs.Contract.{Shows, Copies, Lists}
 
 -- ---- the first i bytes are copied
@@ -65,9 +65,9 @@ module _ {page old now : List ℕ} {count i : ℕ} (c : Copying page old now cou
 pub ruleset copies = (copy-begin, copy-long, copy-same, copy-in, copy-more, copy-end, needs)
 
 -- ---- the page's text
-pub listed : (input lent : List ℕ) {page new : List ℕ} {count : ℕ} {r : Answer} → Shows page count (textOf input) → Copies (take count page) lent r new → Lists input lent r new
-listed input lent {page} {new} {count} {r} s c =
+pub listed : (input lent : List ℕ) {page new : List ℕ} {count : ℕ} {r : Answer} → Shows page count (textOf input) → length page ≡ textRoom → Copies (take count page) lent r new → Lists input lent r new
+listed input lent {page} {new} {count} {r} s e c =
     let d : Copies (textOf input) lent r new = rw (← s .is) c in
-    record { answer = d .answer; text = d .text }
+    record { answer = d .answer; text = d .text; few = omega (arith, s .within, sym (ap length (s .is)) ∙ length-take-le count page (s .within)) }
 
 pub ruleset listings = (listed, needs)

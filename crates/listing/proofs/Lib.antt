@@ -4,3 +4,6 @@ pub mod KindNeeds
 pub mod RowNeeds
 pub mod TableNeeds
 pub mod CopyNeeds
+pub mod LineLaws
+pub mod ListLaws
+pub mod Examples

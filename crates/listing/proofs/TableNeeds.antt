@@ -192,7 +192,7 @@ tried-starts s j rest k e g = go (startsWith (lineOf j) s) refl e
     go true h e = let f : j ≡ k = cc in rw (← f) h
     go false h e = g e
 
-line-starts : (s : List ℕ) (k : Kind) → firstLine s ≡ Names k → startsWith (lineOf k) s ≡ true
+pub line-starts : (s : List ℕ) (k : Kind) → firstLine s ≡ Names k → startsWith (lineOf k) s ≡ true
 unfolding firstLine
 line-starts s k e =
     tried-starts s Relr32 _ k e λ e. tried-starts s Relr64 _ k e λ e. tried-starts s Apr1 _ k e λ e. tried-starts s Apa1 _ k e λ e. tried-starts s Relleb32 _ k e λ e.

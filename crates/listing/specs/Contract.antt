@@ -10,12 +10,13 @@ use Rattle.answer.specs.declared.Answer.{Answer}
 use Rattle.answer.specs.Outcome.{Outcome, accepted, answerIn, filled}
 use Rattle.relleb.specs.Table.{Row, row}
 use Rattle.listing.specs.declared.kind.Kind.{Kind}
-use Rattle.listing.specs.Text.{textOf, decimal, rowsOf, rowText, rowAt, recordLimit, tableLimit}
+use Rattle.listing.specs.Text.{textOf, decimal, rowsOf, rowText, rowAt, recordLimit, tableLimit, textRoom}
 
--- `list` of an input answers r, and leaves `new` in a buffer that held `old`
+-- `list` of an input answers r, and leaves `new` in a buffer that held `old`; no text is longer than textRoom
 pub record Lists (input old : List ℕ) (r : Answer) (new : List ℕ) : Type 0 where
   pub answer : r ≡ answerIn (length old) (accepted (textOf input))
   pub text : new ≡ filled (λ (b : ℕ). b) (accepted (textOf input)) old
+  pub few : length (textOf input) ≤ textRoom
 
 -- bytes, at most so many, stand at a place of what was old, and next is past them
 pub record Puts (old new : List ℕ) (at next : ℕ) (bytes : List ℕ) (most : ℕ) : Type 0 where

@@ -43,20 +43,27 @@ decimalSigned (negsuc n) = dash ++ decimal (n + 1)
 
 -- ---- the first line
 
+abbrev pub feed : List ℕ
+feed = 10 ∷ []
+
+-- "relr32", "relr64", "apr1", "apa1", "relleb32", "relleb64"
+abbrev pub nameOf : Kind → List ℕ
+nameOf Relr32 = 114 ∷ 101 ∷ 108 ∷ 114 ∷ 51 ∷ 50 ∷ []
+nameOf Relr64 = 114 ∷ 101 ∷ 108 ∷ 114 ∷ 54 ∷ 52 ∷ []
+nameOf Apr1 = 97 ∷ 112 ∷ 114 ∷ 49 ∷ []
+nameOf Apa1 = 97 ∷ 112 ∷ 97 ∷ 49 ∷ []
+nameOf Relleb32 = 114 ∷ 101 ∷ 108 ∷ 108 ∷ 101 ∷ 98 ∷ 51 ∷ 50 ∷ []
+nameOf Relleb64 = 114 ∷ 101 ∷ 108 ∷ 108 ∷ 101 ∷ 98 ∷ 54 ∷ 52 ∷ []
+
 -- the line that names a kind, with its line feed
 abbrev pub lineOf : Kind → List ℕ
-lineOf Relr32 = 114 ∷ 101 ∷ 108 ∷ 114 ∷ 51 ∷ 50 ∷ 10 ∷ []
-lineOf Relr64 = 114 ∷ 101 ∷ 108 ∷ 114 ∷ 54 ∷ 52 ∷ 10 ∷ []
-lineOf Apr1 = 97 ∷ 112 ∷ 114 ∷ 49 ∷ 10 ∷ []
-lineOf Apa1 = 97 ∷ 112 ∷ 97 ∷ 49 ∷ 10 ∷ []
-lineOf Relleb32 = 114 ∷ 101 ∷ 108 ∷ 108 ∷ 101 ∷ 98 ∷ 51 ∷ 50 ∷ 10 ∷ []
-lineOf Relleb64 = 114 ∷ 101 ∷ 108 ∷ 108 ∷ 101 ∷ 98 ∷ 54 ∷ 52 ∷ 10 ∷ []
+lineOf k = nameOf k ++ feed
 
 -- the kind whose line an input starts with, and otherwise what is said of the rest
 abbrev pub tried : Kind → List ℕ → Line → Line
 tried k s rest = pick (startsWith (lineOf k) s) (Names k) rest
 
--- what the first line of an input says
+-- what the first line of an input says: the kind that it names, or that it names none or has no line feed
 unfoldable pub firstLine : List ℕ → Line
 firstLine s =
     tried Relr32 s (tried Relr64 s (tried Apr1 s (tried Apa1 s (tried Relleb32 s (tried Relleb64 s Unknown)))))
@@ -108,9 +115,6 @@ rowsOf Relleb64 s = relleb.decode 64 s
 abbrev pub tab : List ℕ
 tab = 9 ∷ []
 
-abbrev pub feed : List ℕ
-feed = 10 ∷ []
-
 -- "no", "offset", "type", "symbol", "addend"
 abbrev pub header : List ℕ
 header =
@@ -150,6 +154,14 @@ tableLimit = 16384
 
 abbrev pub recordLimit : ℕ
 recordLimit = 1024
+
+-- the bytes of an input that its text depends on: the longest first line, and one byte more than the most of a table
+abbrev pub heldBytes : ℕ
+heldBytes = 16394
+
+-- the room that every text has enough of: a header of 29 bytes, and at most 1,024 lines of at most 109
+abbrev pub textRoom : ℕ
+textRoom = 131072
 
 -- the text for what a table says
 unfoldable pub printed : Kind → Outcome (List Row) → List ℕ

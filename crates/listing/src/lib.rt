@@ -13,6 +13,9 @@ mod tables;
 // Room for every text: a header of 29 bytes, and at most 1,024 lines of at most 109.
 pub const TEXT_ROOM: usize = 131072;
 
+// The bytes of an input that its text depends on: the longest first line, and one byte more than the most of a table.
+pub const HELD_BYTES: usize = 16394;
+
 // The first bytes of a page, at the front of the lent bytes if they fit.
 fn copy(page: &[u8], count: usize, text: &mut [u8]) -> Answer
     requires { ⌜ count ≤ length (now page) ⌝ }
