@@ -7,11 +7,11 @@ use mathlib.Core.List.{List, [], _∷_, _++_}
 use native.Mathlib.Decide.{decLt}
 use native.Mathlib.Omega.{arith}
 use lib.Dec.{eqb}
-use lib.ListN.{length, take, drop, length-drop}
+use lib.ListN.{length, take, drop, length-append, length-drop}
 use lib.Seq.{take-all, take-append-seam, length-take-le}
 use Rattle.answer.specs.declared.Answer.{Answer}
 use Rattle.answer.specs.Outcome.{pick, success}
-use Rattle.answer.specs.Outcome.Laws.{answer-fits, filled-self}
+use Rattle.answer.specs.Outcome.Laws.{answer-fits, filled-self, filled-long}
 use Rattle.records.specs.Identifier.{startsWith}
 use Rattle.listing.specs.declared.kind.Kind.{Kind}
 use Rattle.listing.specs.declared.kind.Kind.the-variants.{Relr32, Relr64, Apr1, Apa1, Relleb32, Relleb64}
@@ -21,10 +21,21 @@ use Rattle.listing.specs.Text.{lineOf, firstLine, tableLimit, heldBytes,
 use Rattle.listing.specs.Text.Laws.{text-unknown, text-limit}
 use Rattle.listing.specs.Contract.{Lists}
 
+-- ---- the buffer keeps its length
+pub lists-same : {input old new : List ℕ} {r : Answer} → Lists input old r new → length new ≡ length old
+lists-same {input} {old} {new} l =
+    elim (decLt (length old) (length (textOf input))) [
+      | yes h ↦ ap length (l .text ∙ filled-long (λ (b : ℕ). b) old (record { list = textOf input; is = refl; long = refl }) h)
+      | no h ↦ ap length (l .text ∙ filled-self old refl (omega arith)) ∙ simp (length-append, length-drop) (omega arith)
+    ]
+
 -- ---- with room for every text the call succeeds, and the text is the first bytes that the count says
-module _ {input old new : List ℕ} {r : Answer} (l : Lists input old r new) (room : textRoom ≤ length old) where
+module _ {input old new : List ℕ} {r : Answer} (l : Lists input old r new) (room : textRoom ≤ length new) where
+  fits : length (textOf input) ≤ length old
+  fits = omega (arith, l .few, lists-same l)
+
   pub lists-all : r ≡ success (length (textOf input))
-  lists-all = l .answer ∙ answer-fits (length old) (record { list = textOf input; is = refl; long = refl }) (omega (arith, l .few))
+  lists-all = l .answer ∙ answer-fits (length old) (record { list = textOf input; is = refl; long = refl }) fits
 
   pub lists-count : r .count ≡ length (textOf input)
   unfolding success
@@ -33,11 +44,14 @@ module _ {input old new : List ℕ} {r : Answer} (l : Lists input old r new) (ro
   pub lists-text : take (r .count) new ≡ textOf input
   lists-text =
       ap (λ (n : ℕ). take n new) lists-count
-      ∙ ap (take (length (textOf input))) (l .text ∙ filled-self old refl (omega (arith, l .few)))
+      ∙ ap (take (length (textOf input))) (l .text ∙ filled-self old refl fits)
       ∙ take-append-seam (textOf input) (drop (length (textOf input)) old)
 
-  pub lists-within : length new ≡ length old → r .count ≤ length new
-  lists-within e = omega (arith, lists-count, l .few)
+  pub lists-within : r .count ≤ length new
+  lists-within = omega (arith, lists-count, l .few)
+
+  pub lists-part : r .count ≡ length (take (r .count) new)
+  lists-part = sym (length-take-le (r .count) new lists-within)
 
 -- ---- the first heldBytes of an input have its text
 starts-take : (l s : List ℕ) (n : ℕ) → length l ≤ n → startsWith l (take n s) ≡ startsWith l s
