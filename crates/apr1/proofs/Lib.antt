@@ -1,0 +1,3 @@
+pub mod EntryNeeds
+pub mod PassNeeds
+pub mod ReadNeeds
