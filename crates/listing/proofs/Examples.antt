@@ -1,4 +1,4 @@
--- Listings computed: case P of document 01 and one of each refusal that is the listing's own.
+-- Listings computed: case P of document 01, one of each other kind, and the refusals that are the listing's own.
 -- Assumes nothing.
 use mathlib.Core.Path.{_≡_, refl}
 use mathlib.Core.List.{[], _∷_}
@@ -10,6 +10,8 @@ use Rattle.word.specs.Word as word
 use Rattle.relr.specs.Words as words
 use Rattle.relr.specs.Table as relr
 use Rattle.relr.specs.Contract as relr-contract
+use Rattle.apr1.specs.Table as apr1
+use Rattle.apr1.specs.Contract as apr1-contract
 use Rattle.apa1.specs.Table as apa1
 use Rattle.relleb.specs.Table as relleb
 use Rattle.answer.specs.Outcome as outcome
@@ -59,3 +61,8 @@ offsets = refl
 pairs : textOf (97 ∷ 112 ∷ 97 ∷ 49 ∷ 10 ∷ 65 ∷ 80 ∷ 65 ∷ 49 ∷ 2 ∷ 128 ∷ 32 ∷ 16 ∷ 8 ∷ 8 ∷ []) ≡ 110 ∷ 111 ∷ 9 ∷ 111 ∷ 102 ∷ 102 ∷ 115 ∷ 101 ∷ 116 ∷ 9 ∷ 116 ∷ 121 ∷ 112 ∷ 101 ∷ 9 ∷ 115 ∷ 121 ∷ 109 ∷ 98 ∷ 111 ∷ 108 ∷ 9 ∷ 97 ∷ 100 ∷ 100 ∷ 101 ∷ 110 ∷ 100 ∷ 10 ∷ 48 ∷ 9 ∷ 52 ∷ 48 ∷ 57 ∷ 54 ∷ 9 ∷ 45 ∷ 9 ∷ 45 ∷ 9 ∷ 49 ∷ 54 ∷ 10 ∷ 49 ∷ 9 ∷ 52 ∷ 49 ∷ 48 ∷ 52 ∷ 9 ∷ 45 ∷ 9 ∷ 45 ∷ 9 ∷ 50 ∷ 52 ∷ 10 ∷ []
 unfolding textOf textAfter firstLine identifier.startsWith tableText rowsOf mapped printed rowsFrom rowText field decimal digitsBy decimalSigned refusalText outcome.before outcome.after reading.counted reading.records reading.stepThen number.readUnsigned number.raw number.readSigned number.signed wrap.residue wrap.signedIn apa1.decode apa1.headAt apa1.countOf apa1.stepAt apa1.firstOf apa1.secondOf
 pairs = refl
+
+-- case H: offsets alone
+runs : textOf (97 ∷ 112 ∷ 114 ∷ 49 ∷ 10 ∷ 65 ∷ 80 ∷ 82 ∷ 49 ∷ 2 ∷ 128 ∷ 32 ∷ 2 ∷ 4 ∷ 1 ∷ 8 ∷ []) ≡ 110 ∷ 111 ∷ 9 ∷ 111 ∷ 102 ∷ 102 ∷ 115 ∷ 101 ∷ 116 ∷ 9 ∷ 116 ∷ 121 ∷ 112 ∷ 101 ∷ 9 ∷ 115 ∷ 121 ∷ 109 ∷ 98 ∷ 111 ∷ 108 ∷ 9 ∷ 97 ∷ 100 ∷ 100 ∷ 101 ∷ 110 ∷ 100 ∷ 10 ∷ 48 ∷ 9 ∷ 52 ∷ 48 ∷ 57 ∷ 54 ∷ 9 ∷ 45 ∷ 9 ∷ 45 ∷ 9 ∷ 45 ∷ 10 ∷ 49 ∷ 9 ∷ 52 ∷ 49 ∷ 48 ∷ 48 ∷ 9 ∷ 45 ∷ 9 ∷ 45 ∷ 9 ∷ 45 ∷ 10 ∷ 50 ∷ 9 ∷ 52 ∷ 49 ∷ 48 ∷ 52 ∷ 9 ∷ 45 ∷ 9 ∷ 45 ∷ 9 ∷ 45 ∷ 10 ∷ 51 ∷ 9 ∷ 52 ∷ 49 ∷ 49 ∷ 50 ∷ 9 ∷ 45 ∷ 9 ∷ 45 ∷ 9 ∷ 45 ∷ 10 ∷ []
+unfolding textOf textAfter firstLine identifier.startsWith tableText rowsOf mapped printed rowsFrom rowText field decimal digitsBy decimalSigned refusalText outcome.before outcome.after reading.counted reading.records reading.stepThen number.readUnsigned number.raw apr1-contract.decoding apr1.decode apr1.run apr1.expand apr1.secondOf apr1.firstOf apr1.stepAt apr1.joined apr1.withFirst apr1.withCount
+runs = refl

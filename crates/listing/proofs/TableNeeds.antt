@@ -12,12 +12,12 @@ use lib.ListN.{length, take, drop, getD, length-drop, length-map, List·getD-app
 use lib.Seq.{take-all, take-append-seam, sets, sets-eq, length-sets}
 use borrow.Author.Needs.{needs}
 use Rattle.answer.specs.declared.Answer.{Answer}
-use Rattle.answer.specs.declared.Refusal.the-variants.{Identifier}
-use Rattle.answer.specs.Outcome.{Outcome, accepted, refused, pick, refusal, success, answerIn, filled}
-use Rattle.answer.specs.Outcome.Laws.{filled-fits, answer-refused, accepted-refused, answer-zero, Succeeded}
+use Rattle.answer.specs.Outcome.{Outcome, accepted, pick, success, answerIn, filled}
+use Rattle.answer.specs.Outcome.Laws.{filled-fits, answer-zero, Succeeded}
 use Rattle.records.specs.Identifier.{startsWith}
 use Rattle.records.specs.Identifier.Laws.{starts-short}
 use Rattle.relr.specs.Contract as relr
+use Rattle.apr1.specs.Contract as apr1
 use Rattle.apa1.specs.Table as apa1
 use Rattle.apa1.specs.Contract as apa1-contract
 use Rattle.apa1.specs.Contract.Laws as apa1-laws
@@ -72,9 +72,9 @@ module _ (s os ts ys : List ℕ) (us : List ℤ) {k : Kind} {r : Answer} {os′ 
   unfolding rowsOf
   relr-eight e c = rw e (offsets-read Relr64 s os ts ys us (relr.decoding 8 s) refl refl refl (f .offsets) (c .answer) (c .column))
 
-pub apr1-none : (s os ts ys : List ℕ) (us : List ℤ) {k : Kind} {r : Answer} → k ≡ Apr1 → r ≡ refusal Identifier 0 → Reads k s r os ts ys us
-unfolding rowsOf
-apr1-none s os ts ys us e a = rw e (record { answer = a ∙ sym (answer-refused recordLimit refl); lines = λ l g h i j. absurd (accepted-refused g refl) })
+  pub apr1-read : k ≡ Apr1 → apr1.Reads s os r os′ → Reads k s r os′ ts ys us
+  unfolding rowsOf
+  apr1-read e c = rw e (offsets-read Apr1 s os ts ys us (apr1.decoding s) refl refl refl (f .offsets) (c .answer) (c .column))
 
 -- ---- offsets with addends
 module _ (s os ts ys : List ℕ) (us : List ℤ) {k : Kind} {r : Answer} {os′ : List ℕ} {us′ : List ℤ} (f : Readable s os ts ys us) where
@@ -125,7 +125,7 @@ module _ (s os ts ys : List ℕ) (us : List ℤ) {k : Kind} {r : Answer} {os′ 
   unfolding rowsOf
   relleb-eight e c = whole-read 8 Eight refl (ap (λ (j : Kind). rowsOf j s) e) c
 
-pub ruleset readings = (relr-four, relr-eight, apr1-none, apa1-read, relleb-four, relleb-eight, needs)
+pub ruleset readings = (relr-four, relr-eight, apr1-read, apa1-read, relleb-four, relleb-eight, needs)
 
 -- ---- a refusal
 pub refusal-put : (n p : ℕ) {p0 p1 p2 p3 p4 p5 : List ℕ} {n1 n2 n3 n4 n5 : ℕ}

@@ -6,10 +6,11 @@ use mathlib.Core.List.{List, [], _∷_, _++_, map}
 use lib.Dec.{ltb, leb}
 use lib.IntN.{ℤ, pos, negsuc}
 use lib.ListN.{length, drop, getD}
-use Rattle.answer.specs.declared.Refusal.the-variants.{Class, Limit, Room, Identifier}
+use Rattle.answer.specs.declared.Refusal.the-variants.{Class, Limit, Room}
 use Rattle.answer.specs.Outcome.{numberOf, Outcome, accepted, refused, pick}
 use Rattle.records.specs.Identifier.{startsWith}
 use Rattle.relr.specs.Contract as relr
+use Rattle.apr1.specs.Contract as apr1
 use Rattle.apa1.specs.Table as apa1
 use Rattle.relleb.specs.Table as relleb
 use Rattle.relleb.specs.Table.{Row, row}
@@ -105,7 +106,7 @@ mapped f (refused why p) = refused why p
 unfoldable pub rowsOf : Kind → List ℕ → Outcome (List Row)
 rowsOf Relr32 s = mapped offsetRow (relr.decoding 4 s)
 rowsOf Relr64 s = mapped offsetRow (relr.decoding 8 s)
-rowsOf Apr1 s = refused Identifier 0
+rowsOf Apr1 s = mapped offsetRow (apr1.decoding s)
 rowsOf Apa1 s = mapped pairRow (apa1.decode s)
 rowsOf Relleb32 s = relleb.decode 32 s
 rowsOf Relleb64 s = relleb.decode 64 s

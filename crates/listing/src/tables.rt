@@ -12,7 +12,6 @@ use crate::rows;
 use answer::Answer;
 use answer::CLASS;
 use answer::LIMIT;
-use answer::Refusal;
 
 // The most bytes of a table.
 const TABLE_LIMIT: usize = 16384;
@@ -32,7 +31,7 @@ fn read(
     match kind {
         Kind::Relr32 => relr::read(4, table, offsets),
         Kind::Relr64 => relr::read(8, table, offsets),
-        Kind::Apr1 => answer::refuse(Refusal::Identifier, 0),
+        Kind::Apr1 => apr1::read(table, offsets),
         Kind::Apa1 => apa1::read(table, offsets, addends),
         Kind::Relleb32 => relleb::read(4, table, offsets, types, symbols, addends),
         Kind::Relleb64 => relleb::read(8, table, offsets, types, symbols, addends),
