@@ -13,8 +13,10 @@ use answer::Answer;
 use answer::CLASS;
 use answer::LIMIT;
 
-// The most bytes of a table.
+// The most bytes of a table, and the most records.
 const TABLE_LIMIT: usize = 16384;
+
+const RECORD_LIMIT: usize = 1024;
 
 // The records of a table, into a column for each field.
 fn read(
@@ -55,10 +57,10 @@ fn put_table(page: &mut [u8], kind: Kind, table: &[u8]) -> usize
     requires { ⌜ (length (now table) ≤ tableLimit) × (131072 ≤ length (now page)) ⌝ }
     ensures { λ r. ⌜ Puts (now (page .entry)) (now (page .exit)) 0 r (printed kind (rowsOf kind (now (table .entry)))) 131072 ⌝ }
 {
-    let mut offsets = [0u64; 1024];
-    let mut types = [0u32; 1024];
-    let mut symbols = [0u32; 1024];
-    let mut addends = [0i64; 1024];
+    let mut offsets = [0u64; RECORD_LIMIT];
+    let mut types = [0u32; RECORD_LIMIT];
+    let mut symbols = [0u32; RECORD_LIMIT];
+    let mut addends = [0i64; RECORD_LIMIT];
     let answer = read(
         kind,
         table,
