@@ -1,0 +1,9 @@
+pub mod PutNeeds
+pub mod DecimalNeeds
+pub mod KindNeeds
+pub mod RowNeeds
+pub mod TableNeeds
+pub mod CopyNeeds
+pub mod LineLaws
+pub mod ListLaws
+pub mod Examples
