@@ -1,0 +1,44 @@
+#!/usr/bin/env bash
+# Runs the listing program in target/bin at its limits and on bad input, and the main command on its samples.
+set -eu
+root=$(cd "$(dirname "$0")/.." && pwd)
+out=$(mktemp -d)
+trap 'rm -rf "$out"' EXIT
+
+# the case $1: for standard input the program prints what the command that follows prints
+expect() {
+    "$root/target/bin/list" >"$out/got"
+    "${@:2}" >"$out/want"
+    cmp -s "$out/want" "$out/got" || { echo "list: $1: got"; head -n 5 "$out/got"; exit 1; }
+}
+refused() { expect "$1" printf 'refused\t%d\t%d\n' "$2" "$3"; }
+
+# the listing of $1 offsets 0
+offsets() {
+    printf 'no\toffset\ttype\tsymbol\taddend\n'
+    for ((i = 0; i < $1; i++)); do printf '%d\t0\t-\t-\t-\n' "$i"; done
+}
+zeros() { head -c "$1" /dev/zero; }
+letters() { zeros "$1" | tr '\0' a; }
+bitmaps() { for ((i = 0; i < $1; i++)); do printf '\1\0\0\0\0\0\0\0'; done; }
+
+{ echo relr64; zeros 8192; } | expect "1,024 records" offsets 1024
+{ echo relr64; zeros 8200; } | refused "1,025 records" 9 0
+{ echo relr64; zeros 8; bitmaps 2047; } | expect "16,384 bytes" offsets 1
+{ echo relr64; zeros 8; bitmaps 2047; printf 0; } | refused "16,385 bytes" 2 0
+{ echo relleb64; zeros 16385; } | refused "16,385 bytes behind the longest line" 2 0
+{ echo relr64; zeros 100000; } | refused "100,000 bytes" 2 0
+printf '' | refused "an empty input" 1 0
+printf relr64 | refused "a first line without its line feed" 1 0
+printf 'relr64\r\n' | refused "a carriage return" 1 0
+printf 'relr16\n' | refused "an unknown kind" 1 0
+{ letters 10000; echo; zeros 8; } | refused "a line of 10,000 bytes" 1 0
+{ letters 10000; echo; zeros 20000; } | refused "an unknown kind before a table that is too long" 1 0
+printf 'relr32\n\1\0\0\0' | refused "a bitmap before any address" 6 0
+printf 'relr32\n\0\0\0' | refused "no whole word" 4 3
+printf 'apr1\nAPR' | refused "a cut identifier" 3 0
+printf 'apa1\nAPA1\100' | refused "a negative count" 5 4
+printf 'relleb32\n\0\0' | refused "a byte after the last record" 8 1
+{ printf re; sleep 0.1; echo lr64; sleep 0.1; zeros 3; sleep 0.1; zeros 5; } | expect "short reads" offsets 1
+"$root/list-table" | diff "$root/samples/listing" - || { echo "list: the samples"; exit 1; }
+echo "listing program: ok"
