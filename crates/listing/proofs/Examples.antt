@@ -47,7 +47,7 @@ early : textOf (114 ∷ 101 ∷ 108 ∷ 108 ∷ 101 ∷ 98 ∷ 54 ∷ 52 ∷ 10 
 unfolding textOf textAfter firstLine identifier.startsWith tableText rowsOf mapped printed rowsFrom rowText field decimal digitsBy decimalSigned refusalText outcome.before outcome.after reading.counted reading.records reading.stepThen number.readUnsigned number.raw number.readSigned number.signed wrap.residue wrap.signedIn relleb.decode relleb.stepAt relleb.offsetOf relleb.typeOf relleb.symbolOf relleb.addendOf
 early = refl
 
--- a outcome.after relr-contract.decoding relr.decode words.marked words.fit words.anchored words.read word.wordsOf word.firstWords word.valueOf table of no whole words
+-- a table of no whole words
 cut-word : textOf (114 ∷ 101 ∷ 108 ∷ 114 ∷ 51 ∷ 50 ∷ 10 ∷ 0 ∷ 1 ∷ 0 ∷ []) ≡ 114 ∷ 101 ∷ 102 ∷ 117 ∷ 115 ∷ 101 ∷ 100 ∷ 9 ∷ 52 ∷ 9 ∷ 51 ∷ 10 ∷ []
 unfolding textOf textAfter firstLine identifier.startsWith tableText rowsOf mapped printed rowsFrom rowText field decimal digitsBy decimalSigned refusalText outcome.after relr-contract.decoding relr.decode words.marked words.fit words.anchored words.read word.wordsOf word.firstWords word.valueOf
 cut-word = refl
