@@ -17,3 +17,4 @@ pub mod WriteNeeds
 pub mod PutNeeds
 pub mod Least
 pub mod CursorNeeds
+pub mod Turned
