@@ -1,20 +1,34 @@
 //! The corpus and its format.
 
 use reference::corpus::case::{Case, NAMES, RELR_READ, decode, fnv1a};
-use reference::corpus::{all, hand, pairs};
+use reference::corpus::{Named, all, hand, long, pairs};
+
+fn decoding_gives_back(cases: &[Named], most: usize) {
+    let mut file = Vec::new();
+    for named in cases {
+        named.case.encode(&mut file);
+    }
+    assert!(file.len() < most);
+    let decoded = decode(&file);
+    assert_eq!(decoded.len(), cases.len());
+    for (got, want) in decoded.iter().zip(cases) {
+        assert!(got == &want.case, "{}", want.name);
+    }
+}
 
 #[test]
 fn decoding_gives_the_cases_back() {
-    let cases = all();
-    let mut file = Vec::new();
-    for named in &cases {
-        named.case.encode(&mut file);
-    }
-    assert!(file.len() < 1_300_000);
-    let decoded = decode(&file);
-    assert_eq!(decoded.len(), cases.len());
-    for (got, want) in decoded.iter().zip(&cases) {
-        assert_eq!(got, &want.case, "{}", want.name);
+    decoding_gives_back(&all(), 1_300_000);
+    decoding_gives_back(&long::cases(), 2_000);
+}
+
+/// Each call refuses a long input or list with 2, and answers otherwise at the
+/// limit.
+#[test]
+fn every_call_has_its_limit() {
+    for row in pairs::counts(&long::cases()) {
+        assert!(row[2] > 0);
+        assert_eq!(row.iter().sum::<usize>(), 2 * row[2]);
     }
 }
 

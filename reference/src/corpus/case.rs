@@ -1,6 +1,5 @@
-//! One call of the corpus: its bytes in `corpus.bin`, its running, its line in
-//! `expected.txt`. The format is told in FORMAT.md and at the top of
-//! `src/bin/corpus.rs`.
+//! One call of the corpus: its bytes, its running, its expected line. The
+//! format is told in FORMAT.md.
 
 use crate::{
     Answer, apa1_read, apa1_write, apr1_read, apr1_write, relleb_read, relleb_write, relr_apply,
@@ -28,6 +27,12 @@ pub const NAMES: [&str; 9] = [
     "relleb_read",
     "relleb_write",
 ];
+
+/// In a call's code: the input is all zeros, and the file has its length alone.
+const LONG: u8 = 128;
+
+/// The length from which on a case is written so.
+const LONG_FROM: usize = 1 << 16;
 
 /// What every byte of a lent column or table holds before a call.
 pub const FILL: u8 = 0xA5;
@@ -154,7 +159,7 @@ impl Case {
         out.extend(self.addends.iter().flat_map(|v| v.to_le_bytes()));
     }
 
-    /// The case's line of `expected.txt`, without its line feed.
+    /// The case's expected line, without its line feed.
     pub fn line(&self) -> String {
         let (answer, after) = self.run();
         let hash = fnv1a(&after.output());
@@ -162,24 +167,42 @@ impl Case {
         format!("{number} {place} {count} {hash:016x}")
     }
 
-    /// The case's bytes of `corpus.bin`.
+    /// Whether the file holds only the lengths of what the call is given.
+    fn is_long(&self) -> bool {
+        self.input.len().max(self.offsets.len()) >= LONG_FROM
+    }
+
+    /// The case's bytes in the file.
     pub fn encode(&self, out: &mut Vec<u8>) {
-        out.push(self.call);
+        let long = self.is_long();
+        out.push(if long { LONG | self.call } else { self.call });
         out.extend(self.class.to_le_bytes());
         out.extend(self.base.to_le_bytes());
         put_u32(self.input.len(), out);
-        out.extend_from_slice(&self.input);
+        let mut given = self.input.clone();
+        put_given(&given, long, out);
         put_u32(self.offsets.len(), out);
         put_u32(self.types.len(), out);
         put_u32(self.symbols.len(), out);
         put_u32(self.addends.len(), out);
         if is_write(self.call) {
-            self.put_columns(out);
+            given.clear();
+            self.put_columns(&mut given);
+            put_given(&given, long, out);
         }
         put_u32(self.bytes.len(), out);
         if self.call == RELR_APPLY {
             out.extend_from_slice(&self.bytes);
         }
+    }
+}
+
+/// What a call is given, or nothing where the file holds only its length.
+fn put_given(given: &[u8], long: bool, out: &mut Vec<u8>) {
+    if long {
+        assert!(given.iter().all(|byte| *byte == 0), "a long input is all zeros");
+    } else {
+        out.extend_from_slice(given);
     }
 }
 
@@ -197,7 +220,7 @@ pub fn fnv1a(bytes: &[u8]) -> u64 {
     hash
 }
 
-/// All cases of a `corpus.bin`.
+/// All cases of a file.
 pub fn decode(file: &[u8]) -> Vec<Case> {
     let mut from = From { file, next: 0 };
     let mut cases = Vec::new();
@@ -236,15 +259,21 @@ impl From<'_> {
     }
 
     fn case(&mut self) -> Case {
-        let call = self.array::<1>()[0];
+        let code = self.array::<1>()[0];
+        let (call, long) = (code & !LONG, code & LONG != 0);
         let class = self.u32();
         let base = self.u64();
         let length = self.size();
-        let input = self.take(length).to_vec();
+        let input = if long { vec![0; length] } else { self.take(length).to_vec() };
         let rooms = [self.size(), self.size(), self.size(), self.size()];
         let mut case = Case::read(call, class, &input, rooms);
         case.base = base;
-        if is_write(call) {
+        if is_write(call) && long {
+            case.offsets.fill(0);
+            case.types.fill(0);
+            case.symbols.fill(0);
+            case.addends.fill(0);
+        } else if is_write(call) {
             case.offsets = (0..rooms[0]).map(|_| self.u64()).collect();
             case.types = (0..rooms[1]).map(|_| self.u32()).collect();
             case.symbols = (0..rooms[2]).map(|_| self.u32()).collect();

@@ -7,6 +7,7 @@ pub mod hand_apa1;
 pub mod hand_apr1;
 pub mod hand_relleb;
 pub mod hand_relr;
+pub mod long;
 pub mod pairs;
 pub mod rng;
 pub mod tables;
@@ -19,8 +20,8 @@ pub struct Named {
     pub case: Case,
 }
 
-/// Every case, in the order of the file: hand-made, then swept, then
-/// generated.
+/// The cases of the corpus but the long ones, in the order of the file:
+/// hand-made, then swept, then generated.
 pub fn all() -> Vec<Named> {
     let mut cases = hand::cases();
     cases.extend(generate::sweeps());

@@ -4,7 +4,7 @@ use super::Named;
 use super::case::NAMES;
 
 /// The refusals that document 01 allows to each call, in the order of the
-/// call codes. Its limits of length (2) are not in the corpus for their size.
+/// call codes.
 pub const ALLOWED: [&[u32]; 9] = [
     &[1, 2, 4, 6, 7, 9],
     &[1, 2, 6, 7, 9, 10],
@@ -27,14 +27,19 @@ pub fn counts(cases: &[Named]) -> [[usize; 16]; 9] {
     counts
 }
 
-/// The tables of all cases and of the hand-made ones, each under its heading.
-pub fn markdown(all: &[Named], by_hand: &[Named]) -> String {
-    let mut text = String::from("Cases per call and number of the answer. A dot stands where ");
-    text += "document 01 allows the call no such refusal. Refusal 2 needs an input or list too ";
-    text += "long for the corpus.\n\n## All cases\n\n";
-    text += &table(all);
-    text += "\n## Hand-made cases\n\n";
-    text += &table(by_hand);
+/// The tables of all cases, of the hand-made and of the long ones, each under
+/// its heading.
+pub fn markdown(all: &[Named], by_hand: &[Named], long: &[Named]) -> String {
+    let mut text = String::from("# The corpus\n\nCases per call and number of the answer. ");
+    text += "A dot stands where document 01 allows the call no such refusal. The reference ";
+    text += "prints this page; `reference/FORMAT.md` tells the files.\n";
+    for (heading, cases) in [
+        ("Hand-made, swept and generated cases", all),
+        ("Of these hand-made, each with its answer worked out", by_hand),
+        ("Long cases: at a limit of length, and one over it", long),
+    ] {
+        text += &format!("\n## {heading}\n\n{}", table(cases));
+    }
     text
 }
 

@@ -3,16 +3,16 @@
 use differential::{by_library, by_reference, generate};
 use reference::corpus::case::NAMES;
 use reference::corpus::rng::Rng;
-use reference::corpus::{all, pairs};
+use reference::corpus::{all, long, pairs};
 
 #[test]
 fn corpus() {
-    for named in all() {
-        assert_eq!(by_library(&named.case), by_reference(&named.case), "{}", named.name);
+    for named in all().iter().chain(&long::cases()) {
+        assert!(by_library(&named.case) == by_reference(&named.case), "{}", named.name);
     }
 }
 
-/// All but 2, which needs the lengths of `limits.rs`.
+/// All but 2, which needs the lengths of the long cases.
 #[test]
 fn every_refusal_is_met() {
     let mut rng = Rng::new(1);

@@ -1,0 +1,73 @@
+use borrow.Author.Needs.{needs}
+use lib.ListN.{length}
+use mathlib.Core.Path.{_≡_}
+use Prim.Native.Nat.{_-_, _≤_}
+use Rattle.vectors.proofs.input.signed_column.Statement.{statement}
+use Rattle.vectors.proofs.input.signed_column.Tie as tie
+use Rattle.vectors.proofs.input.signed_column.Reads as reads
+use Rattle.vectors.proofs.input.signed_column.Lts as lts
+use Rattle.vectors.proofs.input.u64le.Reads as u64le-reads
+use Rattle.wrap.proofs.distance.Reads as distance-reads
+
+abbrev Inv-loop : tie.InvT-loop
+Inv-loop column₀ i₀ column i = (i ≤ length column₀) × (length column ≡ length column₀)
+
+abbrev μ-loop : tie.MeasureT-loop
+μ-loop column₀ i₀ column i = length column₀ - i
+
+-- src/input.rt:75:5
+loop-holds : tie.Need-loop-holds Inv-loop μ-loop
+loop-holds c = search needs
+
+-- src/input.rt:76:40
+u64le-requires : tie.Need-u64le-requires Inv-loop μ-loop
+u64le-requires c κs = search needs
+
+-- src/input.rt:76:21
+distance-requires : tie.Need-distance-requires Inv-loop μ-loop
+distance-requires c κs = search needs
+
+-- src/input.rt:76:9
+mul-t3 : tie.Need-mul-t3 Inv-loop μ-loop
+mul-t3 c = search needs
+
+-- src/input.rt:76:9
+slice-set-from-column : tie.Need-slice-set-from-column Inv-loop μ-loop
+slice-set-from-column c = search needs
+
+-- src/input.rt:77:9
+add-i : tie.Need-add-i Inv-loop μ-loop
+add-i c = search needs
+
+-- src/input.rt:75:5
+loop-less : tie.Need-loop-less Inv-loop μ-loop
+loop-less c = search needs
+
+-- src/input.rt:75:5
+loop-again : tie.Need-loop-again Inv-loop μ-loop
+loop-again c = search needs
+
+-- src/input.rt:73:1
+same-length : tie.Need-same-length Inv-loop μ-loop
+same-length c = search needs
+
+-- src/input.rt:73:1
+returns : tie.Need-returns Inv-loop μ-loop
+returns c = search needs
+
+pub signed-column-spec : {M : Type 1} → statement M
+signed-column-spec =
+    tie.close
+    (tie.spec
+    Inv-loop
+    μ-loop
+    loop-holds
+    u64le-requires
+    distance-requires
+    mul-t3
+    slice-set-from-column
+    add-i
+    loop-less
+    loop-again
+    same-length
+    returns)

@@ -1,0 +1,67 @@
+use borrow.Author.Needs.{needs}
+use lib.ListN.{length}
+use Prim.Native.Nat.{_-_, _≤_}
+use Rattle.vectors.proofs.output.column32.Statement.{statement}
+use Rattle.vectors.proofs.output.column32.Tie as tie
+use Rattle.vectors.proofs.output.column32.Reads as reads
+use Rattle.vectors.proofs.output.column32.Lts as lts
+use Rattle.vectors.proofs.output.number.Reads as number-reads
+use Rattle.vectors.proofs.output.widen.Reads as widen-reads
+
+abbrev Inv-loop : tie.InvT-loop
+Inv-loop hash column h₀ i₀ h i = i ≤ length column
+
+abbrev μ-loop : tie.MeasureT-loop
+μ-loop hash column h₀ i₀ h i = length column - i
+
+-- src/output.rt:55:5
+loop-holds : tie.Need-loop-holds Inv-loop μ-loop
+loop-holds c = search needs
+
+-- src/output.rt:56:29
+mul-widen : tie.Need-mul-widen Inv-loop μ-loop
+mul-widen c = search needs
+
+-- src/output.rt:56:29
+shared-slice-read-widen : tie.Need-shared-slice-read-widen Inv-loop μ-loop
+shared-slice-read-widen c = search needs
+
+-- src/output.rt:56:23
+widen-requires : tie.Need-widen-requires Inv-loop μ-loop
+widen-requires c κs = search needs
+
+-- src/output.rt:56:9
+number-requires : tie.Need-number-requires Inv-loop μ-loop
+number-requires c κs = search needs
+
+-- src/output.rt:57:9
+add-i : tie.Need-add-i Inv-loop μ-loop
+add-i c = search needs
+
+-- src/output.rt:55:5
+loop-less : tie.Need-loop-less Inv-loop μ-loop
+loop-less c = search needs
+
+-- src/output.rt:55:5
+loop-again : tie.Need-loop-again Inv-loop μ-loop
+loop-again c = search needs
+
+-- src/output.rt:52:1
+returns : tie.Need-returns Inv-loop μ-loop
+returns c = search needs
+
+pub column32-spec : {M : Type 1} → statement M
+column32-spec =
+    tie.close
+    (tie.spec
+    Inv-loop
+    μ-loop
+    loop-holds
+    mul-widen
+    shared-slice-read-widen
+    widen-requires
+    number-requires
+    add-i
+    loop-less
+    loop-again
+    returns)

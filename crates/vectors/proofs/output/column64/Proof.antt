@@ -1,0 +1,61 @@
+use borrow.Author.Needs.{needs}
+use lib.ListN.{length}
+use Prim.Native.Nat.{_-_, _≤_}
+use Rattle.vectors.proofs.output.column64.Statement.{statement}
+use Rattle.vectors.proofs.output.column64.Tie as tie
+use Rattle.vectors.proofs.output.column64.Reads as reads
+use Rattle.vectors.proofs.output.column64.Lts as lts
+use Rattle.vectors.proofs.output.number.Reads as number-reads
+
+abbrev Inv-loop : tie.InvT-loop
+Inv-loop hash column h₀ i₀ h i = i ≤ length column
+
+abbrev μ-loop : tie.MeasureT-loop
+μ-loop hash column h₀ i₀ h i = length column - i
+
+-- src/output.rt:41:5
+loop-holds : tie.Need-loop-holds Inv-loop μ-loop
+loop-holds c = search needs
+
+-- src/output.rt:42:23
+mul-number : tie.Need-mul-number Inv-loop μ-loop
+mul-number c = search needs
+
+-- src/output.rt:42:23
+shared-slice-read-number : tie.Need-shared-slice-read-number Inv-loop μ-loop
+shared-slice-read-number c = search needs
+
+-- src/output.rt:42:9
+number-requires : tie.Need-number-requires Inv-loop μ-loop
+number-requires c κs = search needs
+
+-- src/output.rt:43:9
+add-i : tie.Need-add-i Inv-loop μ-loop
+add-i c = search needs
+
+-- src/output.rt:41:5
+loop-less : tie.Need-loop-less Inv-loop μ-loop
+loop-less c = search needs
+
+-- src/output.rt:41:5
+loop-again : tie.Need-loop-again Inv-loop μ-loop
+loop-again c = search needs
+
+-- src/output.rt:38:1
+returns : tie.Need-returns Inv-loop μ-loop
+returns c = search needs
+
+pub column64-spec : {M : Type 1} → statement M
+column64-spec =
+    tie.close
+    (tie.spec
+    Inv-loop
+    μ-loop
+    loop-holds
+    mul-number
+    shared-slice-read-number
+    number-requires
+    add-i
+    loop-less
+    loop-again
+    returns)
