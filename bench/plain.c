@@ -1,0 +1,297 @@
+/*
+ * The calls as plain loops: one pass that trusts its input, without any check
+ * of lengths, widths, order, space or room. A read answers records, a write
+ * bytes, an apply additions. The words of memory must be little-endian, as those
+ * of the tables are.
+ */
+#include <stddef.h>
+#include <stdint.h>
+#include <string.h>
+
+/* A body that is compiled for each class on its own. */
+#define BODY static inline __attribute__((always_inline))
+
+/* A call of a body with its class as a constant. */
+#define BY_CLASS(body, ...) (class_ == 4 ? body(4, __VA_ARGS__) : body(8, __VA_ARGS__))
+
+/* The locations of a bitmap. */
+BODY uint64_t window_of(uint32_t class_) {
+    return 8 * class_ - 1;
+}
+
+/* The word at a place. */
+BODY uint64_t load(uint32_t class_, const uint8_t *at) {
+    uint64_t word = 0;
+    memcpy(&word, at, class_);
+    return word;
+}
+
+/* Puts a word at a place. */
+BODY void store(uint32_t class_, uint8_t *at, uint64_t word) {
+    memcpy(at, &word, class_);
+}
+
+/* Reads RELR: the loaders' loop, bit by bit. */
+BODY size_t relr_read(uint32_t class_, const uint8_t *table, size_t length, uint64_t *offsets) {
+    uint64_t *next = offsets;
+    uint64_t start = 0;
+    for (const uint8_t *at = table; at != table + length; at += class_) {
+        uint64_t word = load(class_, at);
+        if ((word & 1) == 0) {
+            *next++ = word;
+            start = word + class_;
+            continue;
+        }
+        for (uint64_t k = 0; (word >>= 1) != 0; k++)
+            if (word & 1)
+                *next++ = start + k * class_;
+        start += window_of(class_) * class_;
+    }
+    return (size_t)(next - offsets);
+}
+
+/* Applies RELR: the same loop, with an addition at each offset. */
+BODY size_t relr_apply(uint32_t class_, const uint8_t *table, size_t length, uint64_t base,
+                       uint8_t *image) {
+    size_t count = 0;
+    uint8_t *start = image;
+    for (const uint8_t *at = table; at != table + length; at += class_) {
+        uint64_t word = load(class_, at);
+        if ((word & 1) == 0) {
+            start = image + word;
+            store(class_, start, load(class_, start) + base);
+            start += class_;
+            count++;
+            continue;
+        }
+        for (uint8_t *place = start; (word >>= 1) != 0; place += class_)
+            if (word & 1) {
+                store(class_, place, load(class_, place) + base);
+                count++;
+            }
+        start += window_of(class_) * class_;
+    }
+    return count;
+}
+
+/* Writes RELR: the linkers' loop. */
+BODY size_t relr_write(uint32_t class_, const uint64_t *offsets, size_t count, uint8_t *table) {
+    uint8_t *at = table;
+    for (size_t i = 0; i < count;) {
+        uint64_t start = offsets[i] + class_;
+        store(class_, at, offsets[i++]);
+        at += class_;
+        for (;;) {
+            uint64_t bitmap = 0;
+            for (; i < count; i++) {
+                uint64_t distance = offsets[i] - start;
+                if (distance >= window_of(class_) * class_ || distance % class_ != 0)
+                    break;
+                bitmap |= (uint64_t)1 << (distance / class_);
+            }
+            if (bitmap == 0)
+                break;
+            store(class_, at, bitmap << 1 | 1);
+            at += class_;
+            start += window_of(class_) * class_;
+        }
+    }
+    return (size_t)(at - table);
+}
+
+/* Reads an unsigned number and steps over it. */
+static inline uint64_t read_unsigned(const uint8_t **at) {
+    uint64_t value = 0;
+    unsigned shift = 0;
+    uint8_t byte;
+    do {
+        byte = *(*at)++;
+        value |= (uint64_t)(byte & 0x7F) << shift;
+        shift += 7;
+    } while (byte & 0x80);
+    return value;
+}
+
+/* Reads a signed number and steps over it. */
+static inline int64_t read_signed(const uint8_t **at) {
+    uint64_t value = 0;
+    unsigned shift = 0;
+    uint8_t byte;
+    do {
+        byte = *(*at)++;
+        value |= (uint64_t)(byte & 0x7F) << shift;
+        shift += 7;
+    } while (byte & 0x80);
+    if (shift < 64 && (byte & 0x40))
+        value |= ~(uint64_t)0 << shift;
+    return (int64_t)value;
+}
+
+/* Writes an unsigned number; the place after it. */
+static inline uint8_t *write_unsigned(uint8_t *at, uint64_t value) {
+    for (; value >= 0x80; value >>= 7)
+        *at++ = (uint8_t)(value | 0x80);
+    *at++ = (uint8_t)value;
+    return at;
+}
+
+/* Writes a signed number; the place after it. */
+static inline uint8_t *write_signed(uint8_t *at, int64_t value) {
+    for (; value < -0x40 || value >= 0x40; value >>= 7)
+        *at++ = (uint8_t)(value | 0x80);
+    *at++ = (uint8_t)(value & 0x7F);
+    return at;
+}
+
+/* A sum at the width of a class, as a signed number. */
+BODY int64_t as_signed(uint32_t class_, uint64_t sum) {
+    return class_ == 4 ? (int32_t)sum : (int64_t)sum;
+}
+
+/* A sum at the width of a class. */
+BODY uint64_t as_unsigned(uint32_t class_, uint64_t sum) {
+    return class_ == 4 ? (uint32_t)sum : sum;
+}
+
+/* Reads RELLEB. */
+BODY size_t relleb_read(uint32_t class_, const uint8_t *table, uint64_t *offsets, uint32_t *types,
+                        uint32_t *symbols, int64_t *addends) {
+    size_t count = (size_t)read_unsigned(&table);
+    uint64_t offset = 0, addend = 0;
+    uint32_t type = 0;
+    for (size_t i = 0; i < count; i++) {
+        offset += read_unsigned(&table);
+        type += (uint32_t)read_signed(&table);
+        int64_t field = read_signed(&table);
+        if (field < 0) {
+            field = ~field;
+            addend += (uint64_t)read_signed(&table);
+        }
+        offsets[i] = as_unsigned(class_, offset);
+        types[i] = type;
+        symbols[i] = (uint32_t)field;
+        addends[i] = as_signed(class_, addend);
+    }
+    return count;
+}
+
+/* Writes RELLEB. */
+BODY size_t relleb_write(uint32_t class_, const uint64_t *offsets, const uint32_t *types,
+                         const uint32_t *symbols, const int64_t *addends, size_t count,
+                         uint8_t *table) {
+    uint8_t *at = write_unsigned(table, count);
+    uint64_t offset = 0, addend = 0;
+    uint32_t type = 0;
+    for (size_t i = 0; i < count; i++) {
+        at = write_unsigned(at, as_unsigned(class_, offsets[i] - offset));
+        at = write_signed(at, (int32_t)(types[i] - type));
+        if ((uint64_t)addends[i] == addend) {
+            at = write_signed(at, symbols[i]);
+        } else {
+            at = write_signed(at, ~(int64_t)symbols[i]);
+            at = write_signed(at, as_signed(class_, (uint64_t)addends[i] - addend));
+        }
+        offset = offsets[i];
+        type = types[i];
+        addend = (uint64_t)addends[i];
+    }
+    return (size_t)(at - table);
+}
+
+/* Reads RELR, for either class. */
+size_t plain_relr_read(uint32_t class_, const uint8_t *table, size_t length, uint64_t *offsets) {
+    return BY_CLASS(relr_read, table, length, offsets);
+}
+
+/* Writes RELR, for either class. */
+size_t plain_relr_write(uint32_t class_, const uint64_t *offsets, size_t count, uint8_t *table) {
+    return BY_CLASS(relr_write, offsets, count, table);
+}
+
+/* Applies RELR, for either class. */
+size_t plain_relr_apply(uint32_t class_, const uint8_t *table, size_t length, uint64_t base,
+                        uint8_t *image) {
+    return BY_CLASS(relr_apply, table, length, base, image);
+}
+
+/* Reads APR1. */
+size_t plain_apr1_read(const uint8_t *table, uint64_t *offsets) {
+    const uint8_t *at = table + 4;
+    uint64_t *next = offsets;
+    uint64_t pairs = read_unsigned(&at);
+    uint64_t offset = read_unsigned(&at);
+    *next++ = offset;
+    while (pairs-- > 0) {
+        uint64_t times = read_unsigned(&at);
+        uint64_t gap = read_unsigned(&at);
+        while (times-- > 0)
+            *next++ = offset += gap;
+    }
+    return (size_t)(next - offsets);
+}
+
+/* How many runs of equal gaps there are: the table says so before them. */
+static uint64_t runs_of(const uint64_t *offsets, size_t count) {
+    uint64_t runs = 0, gap = 0;
+    for (size_t i = 1; i < count; i++) {
+        runs += offsets[i] - offsets[i - 1] != gap;
+        gap = offsets[i] - offsets[i - 1];
+    }
+    return runs;
+}
+
+/* Writes APR1. */
+size_t plain_apr1_write(const uint64_t *offsets, size_t count, uint8_t *table) {
+    memcpy(table, "APR1", 4);
+    uint8_t *at = write_unsigned(table + 4, runs_of(offsets, count));
+    at = write_unsigned(at, offsets[0]);
+    for (size_t i = 1; i < count;) {
+        uint64_t gap = offsets[i] - offsets[i - 1];
+        size_t first = i++;
+        while (i < count && offsets[i] - offsets[i - 1] == gap)
+            i++;
+        at = write_unsigned(at, i - first);
+        at = write_unsigned(at, gap);
+    }
+    return (size_t)(at - table);
+}
+
+/* Reads APA1. */
+size_t plain_apa1_read(const uint8_t *table, uint64_t *offsets, int64_t *addends) {
+    const uint8_t *at = table + 4;
+    size_t count = (size_t)read_signed(&at);
+    uint64_t offset = 0, addend = 0;
+    for (size_t i = 0; i < count; i++) {
+        offsets[i] = offset += (uint64_t)read_signed(&at);
+        addends[i] = (int64_t)(addend += (uint64_t)read_signed(&at));
+    }
+    return count;
+}
+
+/* Writes APA1. */
+size_t plain_apa1_write(const uint64_t *offsets, const int64_t *addends, size_t count,
+                        uint8_t *table) {
+    memcpy(table, "APA1", 4);
+    uint8_t *at = write_signed(table + 4, (int64_t)count);
+    uint64_t offset = 0, addend = 0;
+    for (size_t i = 0; i < count; i++) {
+        at = write_signed(at, (int64_t)(offsets[i] - offset));
+        at = write_signed(at, (int64_t)((uint64_t)addends[i] - addend));
+        offset = offsets[i];
+        addend = (uint64_t)addends[i];
+    }
+    return (size_t)(at - table);
+}
+
+/* Reads RELLEB, for either class. */
+size_t plain_relleb_read(uint32_t class_, const uint8_t *table, uint64_t *offsets, uint32_t *types,
+                         uint32_t *symbols, int64_t *addends) {
+    return BY_CLASS(relleb_read, table, offsets, types, symbols, addends);
+}
+
+/* Writes RELLEB, for either class. */
+size_t plain_relleb_write(uint32_t class_, const uint64_t *offsets, const uint32_t *types,
+                          const uint32_t *symbols, const int64_t *addends, size_t count,
+                          uint8_t *table) {
+    return BY_CLASS(relleb_write, offsets, types, symbols, addends, count, table);
+}

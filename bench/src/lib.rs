@@ -1,0 +1,19 @@
+//! The same calls by three programs, for measuring: the library, a Rust program with the same
+//! checks, and a C program without any.
+
+#![deny(unsafe_code)]
+
+mod apa1;
+mod apr1;
+pub mod baseline;
+mod leb;
+pub mod measure;
+#[allow(unsafe_code)]
+mod plain;
+#[allow(unsafe_code)]
+pub mod programs;
+mod refusal;
+mod relleb;
+mod relr;
+pub mod rows;
+mod word;

@@ -1,0 +1,47 @@
+//! Measures every row and prints the figures as Markdown.
+
+use bench::measure::{Measured, measured};
+use bench::rows;
+
+/// The numbers of records that a row is measured with; the last is that of the first table.
+const SIZES: [usize; 3] = [10_000, 100_000, 1_000_000];
+
+/// A row's name, and what was measured at each size.
+type Result = (String, [Measured; 3]);
+
+/// Measures the rows whose names contain the argument, or all.
+fn main() {
+    let part = std::env::args().nth(1).unwrap_or_default();
+    let mut results = Vec::new();
+    for row in rows::all().into_iter().filter(|row| row.name.contains(&part)) {
+        eprintln!("{}", row.name);
+        let sizes = SIZES.map(|records| measured(&row, records));
+        results.push((row.name, sizes));
+    }
+    print_ratios(&results);
+    println!();
+    print_growth(&results);
+}
+
+/// The first table: the library's time and its ratios to the other programs.
+fn print_ratios(results: &[Result]) {
+    println!("{} records: the library's best time, and its time over the others'.\n", SIZES[2]);
+    println!("| row | ns per record | over Rust, best | median | over C, best | median |");
+    println!("|---|--:|--:|--:|--:|--:|");
+    for (name, [.., Measured { ours, rust, c }]) in results {
+        print!("| {name} | {:.2} ", ours.best);
+        print!("| {:.2} | {:.2} ", ours.best / rust.best, ours.median / rust.median);
+        println!("| {:.2} | {:.2} |", ours.best / c.best, ours.median / c.median);
+    }
+}
+
+/// The second table: the library's time per record at each size.
+fn print_growth(results: &[Result]) {
+    println!("The library's best time in ns per record, by the number of records.\n");
+    println!("| row | {} | {} | {} | last over first |", SIZES[0], SIZES[1], SIZES[2]);
+    println!("|---|--:|--:|--:|--:|");
+    for (name, sizes) in results {
+        let [few, more, most] = sizes.each_ref().map(|measured| measured.ours.best);
+        println!("| {name} | {few:.2} | {more:.2} | {most:.2} | {:.2} |", most / few);
+    }
+}

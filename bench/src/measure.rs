@@ -1,0 +1,90 @@
+//! The checking and the timing of a row.
+
+use crate::programs::{Program, c, library, reference, rust};
+use crate::rows::Row;
+use reference::corpus::case::Case;
+use std::array::from_fn;
+use std::hint::black_box;
+use std::time::{Duration, Instant};
+
+/// The programs that are measured.
+const PROGRAMS: [Program; 3] = [library, rust, c];
+
+/// Rounds before the first that counts.
+const WARM_UP: usize = 3;
+
+/// The least number of rounds that count.
+const ROUNDS: usize = 31;
+
+/// The least time that the rounds of a row take.
+const LEAST: Duration = Duration::from_millis(500);
+
+/// The times of a program, in nanoseconds per record.
+#[derive(Clone, Copy)]
+pub struct Times {
+    pub best: f64,
+    pub median: f64,
+}
+
+/// The times of the library, of Rust and of C.
+pub struct Measured {
+    pub ours: Times,
+    pub rust: Times,
+    pub c: Times,
+}
+
+/// The case of a row, after every program has been seen to do on it as the reference does.
+pub fn checked(row: &Row, records: usize) -> Case {
+    let case = (row.case)(records);
+    let mut want = case.clone();
+    let answer = reference(&mut want);
+    assert!(answer.is_ok(), "{}: {answer:?}", row.name);
+    for program in PROGRAMS {
+        let mut got = case.clone();
+        assert_eq!(program(&mut got), answer, "{}", row.name);
+        assert!(got == want, "{}: buffers differ", row.name);
+    }
+    case
+}
+
+/// The times of a row's programs in rounds: each makes the call once a round, on the same buffers,
+/// in changing order.
+pub fn measured(row: &Row, records: usize) -> Measured {
+    let mut case = checked(row, records);
+    let mut spent: [Vec<Duration>; 3] = Default::default();
+    let (begin, mut round) = (Instant::now(), 0);
+    while round < WARM_UP + ROUNDS || begin.elapsed() < LEAST {
+        for which in order(round) {
+            let time = timed(PROGRAMS[which], &mut case);
+            if round >= WARM_UP {
+                spent[which].push(time);
+            }
+        }
+        round += 1;
+    }
+    let [ours, rust, c] = spent.map(|times| summed_up(times, records));
+    Measured { ours, rust, c }
+}
+
+/// The order of a round: all orders have their turn.
+fn order(round: usize) -> [usize; 3] {
+    let mut order = from_fn(|index| (index + round) % 3);
+    if round / 3 % 2 == 1 {
+        order.reverse();
+    }
+    order
+}
+
+/// The time of one call.
+fn timed(program: Program, case: &mut Case) -> Duration {
+    let begin = Instant::now();
+    black_box(black_box(program)(black_box(case))).ok();
+    begin.elapsed()
+}
+
+/// The best time and the median, per record.
+fn summed_up(mut times: Vec<Duration>, records: usize) -> Times {
+    times.sort();
+    let per_record = |time: Duration| time.as_nanos() as f64 / records as f64;
+    Times { best: per_record(times[0]), median: per_record(times[times.len() / 2]) }
+}

@@ -1,0 +1,57 @@
+//! The call of a case, made by each program on the case's own buffers.
+
+use crate::{baseline, plain};
+use reference::corpus::case::{
+    APA1_READ, APA1_WRITE, APR1_READ, APR1_WRITE, Case, RELLEB_READ, RELLEB_WRITE, RELR_APPLY,
+    RELR_READ, RELR_WRITE,
+};
+use reloc::Refusal;
+
+/// A program: it makes the call of a case and leaves the results in it.
+pub type Program = fn(&mut Case) -> Result<usize, Refusal>;
+
+/// Makes the call of a case by the functions of a module.
+macro_rules! call {
+    ($case:ident, $module:ident) => {{
+        let (class, i, b) = ($case.class, &$case.input, &mut $case.bytes);
+        let (o, t) = (&mut $case.offsets, &mut $case.types);
+        let (s, a) = (&mut $case.symbols, &mut $case.addends);
+        match $case.call {
+            RELR_READ => $module::relr_read(class, i, o),
+            RELR_WRITE => $module::relr_write(class, o, b),
+            RELR_APPLY => $module::relr_apply(class, i, $case.base, b),
+            APR1_READ => $module::apr1_read(i, o),
+            APR1_WRITE => $module::apr1_write(o, b),
+            APA1_READ => $module::apa1_read(i, o, a),
+            APA1_WRITE => $module::apa1_write(o, a, b),
+            RELLEB_READ => $module::relleb_read(class, i, o, t, s, a),
+            RELLEB_WRITE => $module::relleb_write(class, o, t, s, a, b),
+            call => panic!("no call {call}"),
+        }
+    }};
+}
+
+/// The library, by its wrapper.
+pub fn library(case: &mut Case) -> Result<usize, Refusal> {
+    call!(case, reloc)
+}
+
+/// The Rust program with the same checks.
+pub fn rust(case: &mut Case) -> Result<usize, Refusal> {
+    call!(case, baseline)
+}
+
+/// The C program without any check; only for a case that the reference accepts.
+pub(crate) fn c(case: &mut Case) -> Result<usize, Refusal> {
+    // SAFETY: `measure` gives only cases that the reference has accepted.
+    Ok(unsafe { plain::run(case) })
+}
+
+/// The slow reference, which is not measured.
+pub fn reference(case: &mut Case) -> Result<usize, Refusal> {
+    let answer = call!(case, reference);
+    match answer.number {
+        0 => Ok(answer.count as usize),
+        number => Err(Refusal { number, place: answer.place, need: answer.count }),
+    }
+}

@@ -1,0 +1,202 @@
+//! RELR: read, written and applied.
+
+use crate::refusal::{
+    Answer, BASE, MISSING, ODD, ORDER, OUTSIDE, SPACE, enough, increasing, readable, refuse,
+    writable,
+};
+use crate::word::{Word, by_class};
+use reloc::Refusal;
+use std::marker::PhantomData;
+
+/// Reads the offsets of a table into a column.
+pub fn relr_read(class: u32, table: &[u8], offsets: &mut [u64]) -> Answer {
+    by_class!(class, read(table, offsets))
+}
+
+/// Writes the least table for a list of offsets.
+pub fn relr_write(class: u32, offsets: &[u64], table: &mut [u8]) -> Answer {
+    by_class!(class, write(offsets, table))
+}
+
+/// Adds the base to the image's word at each offset of a table.
+pub fn relr_apply(class: u32, table: &[u8], base: u64, image: &mut [u8]) -> Answer {
+    by_class!(class, apply(table, base, image))
+}
+
+/// Reading, for a class.
+fn read<W: Word>(table: &[u8], offsets: &mut [u64]) -> Answer {
+    let found = find::<W>(table, u64::MAX)?;
+    enough(offsets.len(), found.count as u64)?;
+    let mut room = offsets.iter_mut();
+    decode::<W>(table, |offset| {
+        if let Some(entry) = room.next() {
+            *entry = offset;
+        }
+    });
+    Ok(found.count)
+}
+
+/// Applying, for a class.
+fn apply<W: Word>(table: &[u8], base: u64, image: &mut [u8]) -> Answer {
+    if base > W::TOP {
+        return refuse(BASE, 0);
+    }
+    let places = (image.len() as u64 + 1).saturating_sub(W::STEP);
+    let found = find::<W>(table, places)?;
+    if let Some(index) = found.outside {
+        return refuse(OUTSIDE, index);
+    }
+    decode::<W>(table, |offset| {
+        let at = offset as usize;
+        let word = &mut image[at..at + W::BYTES];
+        W::store(W::load(word).wrapping_add(base), word);
+    });
+    Ok(found.count)
+}
+
+/// The first pass over a table: looks at every word, and answers what it found.
+fn find<W: Word>(table: &[u8], places: u64) -> Result<Found<W>, Refusal> {
+    opened::<W>(table)?;
+    let mut found = Found { start: 0, places, count: 0, outside: None, word: PhantomData };
+    for (index, word) in words::<W>(table).enumerate() {
+        let legal = if word % 2 == 0 { found.address(word) } else { found.bitmap(word >> 1) };
+        if !legal {
+            return refuse(SPACE, index * W::BYTES);
+        }
+    }
+    Ok(found)
+}
+
+/// What the first pass has found: *where*, the offsets so far, and the index of the first that is
+/// not below `places`. Past the largest number *where* stays at it: no offset is there.
+struct Found<W> {
+    start: u64,
+    places: u64,
+    count: usize,
+    outside: Option<usize>,
+    word: PhantomData<W>,
+}
+
+impl<W: Word> Found<W> {
+    /// Takes an address; false when it is outside the space.
+    fn address(&mut self, offset: u64) -> bool {
+        if offset >= self.places {
+            self.outside.get_or_insert(self.count);
+        }
+        self.count += 1;
+        self.start = offset.saturating_add(W::STEP);
+        offset <= W::LAST
+    }
+
+    /// Takes the bits of a bitmap; false when one is outside the space.
+    fn bitmap(&mut self, set: u64) -> bool {
+        let first = self.start;
+        self.start = first.saturating_add(W::WINDOW * W::STEP);
+        for k in ones(set) {
+            let offset = first.saturating_add(k * W::STEP);
+            if offset > W::LAST {
+                return false;
+            }
+            if offset >= self.places {
+                self.outside.get_or_insert(self.count);
+            }
+            self.count += 1;
+        }
+        true
+    }
+}
+
+/// The table is whole words, the first of them not a bitmap; after an address no bitmap lacks one.
+fn opened<W: Word>(table: &[u8]) -> Result<(), Refusal> {
+    readable(table)?;
+    if !table.len().is_multiple_of(W::BYTES) {
+        return refuse(MISSING, table.len());
+    }
+    match words::<W>(table).next() {
+        Some(word) if word % 2 == 1 => refuse(ORDER, 0),
+        _ => Ok(()),
+    }
+}
+
+/// The second pass: gives the offsets of an accepted table, in order.
+fn decode<W: Word>(table: &[u8], mut put: impl FnMut(u64)) {
+    let mut start = 0u64;
+    for word in words::<W>(table) {
+        if word % 2 == 0 {
+            put(word);
+            start = word.wrapping_add(W::STEP);
+        } else {
+            ones(word >> 1).for_each(|k| put(start + k * W::STEP));
+            start = start.wrapping_add(W::WINDOW * W::STEP);
+        }
+    }
+}
+
+/// The words of a table.
+fn words<W: Word>(table: &[u8]) -> impl Iterator<Item = u64> {
+    table.chunks_exact(W::BYTES).map(W::load)
+}
+
+/// The places of the one bits, lowest first, found bit by bit.
+fn ones(set: u64) -> impl Iterator<Item = u64> {
+    (0..u64::BITS as u64 - set.leading_zeros() as u64).filter(move |k| set >> k & 1 == 1)
+}
+
+/// Writing, for a class.
+fn write<W: Word>(offsets: &[u64], table: &mut [u8]) -> Answer {
+    writable(offsets.len())?;
+    increasing(offsets, |offset| match offset {
+        _ if offset % 2 == 1 => Some(ODD),
+        _ if offset > W::LAST => Some(SPACE),
+        _ => None,
+    })?;
+    let need = W::BYTES * Packed::<W>::new(offsets).count();
+    enough(table.len(), need as u64)?;
+    for (room, word) in table.chunks_exact_mut(W::BYTES).zip(Packed::<W>::new(offsets)) {
+        W::store(word, room);
+    }
+    Ok(need)
+}
+
+/// The words of a legal list's least table: the offsets left, and where the next bitmap starts.
+struct Packed<'a, W> {
+    rest: &'a [u64],
+    start: u64,
+    word: PhantomData<W>,
+}
+
+impl<'a, W: Word> Packed<'a, W> {
+    /// All of a list. No offset is at the largest number or past it, so no bitmap starts.
+    fn new(offsets: &'a [u64]) -> Self {
+        Packed { rest: offsets, start: u64::MAX, word: PhantomData }
+    }
+
+    /// The bit of an offset in the next bitmap, if it has one there.
+    fn location(&self, offset: u64) -> Option<u64> {
+        let distance = offset.checked_sub(self.start)?;
+        let k = distance / W::STEP;
+        (distance % W::STEP == 0 && k < W::WINDOW).then_some(k)
+    }
+}
+
+impl<W: Word> Iterator for Packed<'_, W> {
+    type Item = u64;
+
+    /// A bitmap with all offsets up to the first that does not fall in it, or else the next offset.
+    fn next(&mut self) -> Option<u64> {
+        let first = *self.rest.first()?;
+        let (mut set, mut taken) = (0, 0);
+        while let Some(k) = self.rest.get(taken).and_then(|offset| self.location(*offset)) {
+            set |= 1 << k;
+            taken += 1;
+        }
+        if taken == 0 {
+            self.rest = &self.rest[1..];
+            self.start = first.saturating_add(W::STEP);
+            return Some(first);
+        }
+        self.rest = &self.rest[taken..];
+        self.start = self.start.saturating_add(W::WINDOW * W::STEP);
+        Some(set << 1 | 1)
+    }
+}

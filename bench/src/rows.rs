@@ -1,0 +1,173 @@
+//! What is measured: a row is a call on tables or lists of one shape, of any number of records.
+
+use reference::corpus::case::{
+    APA1_READ, APA1_WRITE, APR1_READ, APR1_WRITE, Case, FILL, RELLEB_READ, RELLEB_WRITE, RELR_READ,
+    RELR_WRITE,
+};
+use reference::corpus::rng::Rng;
+use reference::corpus::tables::relr_bytes;
+
+/// The seed of every list.
+const SEED: u64 = 1;
+
+/// What is added when a table is applied.
+const BASE: u64 = 0x1234_5678;
+
+/// A row: its name, and its case of so many records.
+pub struct Row {
+    pub name: String,
+    pub case: Box<dyn Fn(usize) -> Case>,
+}
+
+/// What a RELR table is made of: full bitmaps, bitmaps with one bit each, or no bitmaps.
+#[derive(Clone, Copy)]
+enum Shape {
+    Dense,
+    Sparse,
+    Addresses,
+}
+
+/// The shapes by name.
+const SHAPES: [(&str, Shape); 3] = [
+    ("dense bitmaps", Shape::Dense),
+    ("sparse bitmaps", Shape::Sparse),
+    ("addresses only", Shape::Addresses),
+];
+
+/// The longest run of an APR1 list, by name.
+const RUNS: [(&str, u64); 2] = [("short runs", 4), ("long runs", 2_000)];
+
+/// All rows.
+pub fn all() -> Vec<Row> {
+    let shapes = SHAPES.iter().flat_map(|(name, shape)| [(name, *shape, 4), (name, *shape, 8)]);
+    let mut rows = Vec::new();
+    for (name, shape, class) in shapes.clone() {
+        let name = format!("RELR apply, {name}, class {class}");
+        rows.push(Row { name, case: Box::new(move |records| applied(shape, class, records)) });
+    }
+    for (name, shape, class) in shapes {
+        let name = format!("{name}, class {class}");
+        rows.extend(both("RELR", &name, RELR_READ, move |records| {
+            relr_list(shape, class, records)
+        }));
+    }
+    for (name, longest) in RUNS {
+        rows.extend(both("APR1", name, APR1_READ, move |records| apr1_list(longest, records)));
+    }
+    rows.extend(both("APA1", "records", APA1_READ, |records| record_list(APA1_WRITE, 0, records)));
+    for class in [4, 8] {
+        let name = format!("records, class {class}");
+        let list = move |records| record_list(RELLEB_WRITE, class, records);
+        rows.extend(both("RELLEB", &name, RELLEB_READ, list));
+    }
+    rows
+}
+
+/// The rows of writing a list and of reading the table written.
+fn both(
+    kind: &str,
+    name: &str,
+    read: u8,
+    list: impl Fn(usize) -> Case + Copy + 'static,
+) -> [Row; 2] {
+    let reading = move |records| {
+        let list = list(records);
+        Case::read_into(read, list.class, &written(&list), records)
+    };
+    let writing = move |records| {
+        let list = list(records);
+        Case { bytes: vec![FILL; written(&list).len()], ..list }
+    };
+    [
+        Row { name: format!("{kind} read, {name}"), case: Box::new(reading) },
+        Row { name: format!("{kind} write, {name}"), case: Box::new(writing) },
+    ]
+}
+
+/// The reference's table for a list.
+fn written(list: &Case) -> Vec<u8> {
+    let need = list.run().0.count as usize;
+    Case { bytes: vec![FILL; need], ..list.clone() }.run().1.bytes
+}
+
+/// The applying of a table to an image of as many words as it has offsets.
+fn applied(shape: Shape, class: u32, records: usize) -> Case {
+    let table = match shape {
+        Shape::Dense => written(&relr_list(shape, class, records)),
+        Shape::Sparse => sparse_turns(class, records),
+        Shape::Addresses => relr_bytes(class, &relr_list(Shape::Dense, class, records).offsets),
+    };
+    Case::apply(class, &table, BASE, &vec![FILL; records * class as usize])
+}
+
+/// A sparse table of one offset a word, which goes back to 0 when a bitmap would pass the image's
+/// end.
+fn sparse_turns(class: u32, records: usize) -> Vec<u8> {
+    let mut rng = Rng::new(SEED);
+    let turn = 1 + (records - 1) / window(class) as usize;
+    let mut bitmap = || 1 | 2 << rng.below(window(class));
+    let words = (0..records).map(|index| if index % turn == 0 { 0 } else { bitmap() });
+    relr_bytes(class, &words.collect::<Vec<_>>())
+}
+
+/// The locations of a bitmap.
+fn window(class: u32) -> u64 {
+    8 * class as u64 - 1
+}
+
+/// A RELR list of a shape.
+fn relr_list(shape: Shape, class: u32, records: usize) -> Case {
+    let mut rng = Rng::new(SEED);
+    let word = |index: u64| match shape {
+        Shape::Dense => index,
+        // After the address, one location of each bitmap.
+        Shape::Sparse if index == 0 => 0,
+        Shape::Sparse => 1 + (index - 1) * window(class) + rng.below(window(class)),
+        Shape::Addresses => index * (window(class) + 1),
+    };
+    let offsets: Vec<u64> = (0..records as u64).map(word).map(|word| word * class as u64).collect();
+    Case::write(RELR_WRITE, class, &offsets, 0)
+}
+
+/// An APR1 list with runs up to the longest, of gaps up to 128.
+fn apr1_list(longest: u64, records: usize) -> Case {
+    let mut rng = Rng::new(SEED);
+    let (mut offset, mut gap, mut times) = (0x1000, 4, 0);
+    let mut offsets = vec![offset];
+    while offsets.len() < records {
+        if times == 0 {
+            // Another gap than that of the run before.
+            gap = (gap + 4 * rng.below(31)) % 128 + 4;
+            times = 1 + rng.below(longest);
+        }
+        offset += gap;
+        times -= 1;
+        offsets.push(offset);
+    }
+    Case::write(APR1_WRITE, 0, &offsets, 0)
+}
+
+/// A list of records for APA1 or RELLEB: most offsets a word apart, few types, one addend in two
+/// another than before.
+fn record_list(call: u8, class: u32, records: usize) -> Case {
+    let mut rng = Rng::new(SEED);
+    let mut case = Case::write(call, class, &[], 0);
+    let (mut offset, mut kind, mut addend) = (0x1000, 1, 0);
+    for _ in 0..records {
+        offset += if rng.once_in(4) { 8 * (1 + rng.below(32)) } else { 8 };
+        if rng.once_in(2) {
+            let bits = rng.below(22);
+            addend = rng.below(1 << bits) as i64 - 4;
+        }
+        case.offsets.push(offset);
+        case.addends.push(addend);
+        if call == RELLEB_WRITE {
+            if rng.once_in(4) {
+                kind = rng.pick(&[1, 2, 4, 6, 7, 8, 257]);
+            }
+            case.types.push(kind);
+            case.symbols.push(rng.below(5_000) as u32);
+        }
+    }
+    case
+}
