@@ -31,13 +31,13 @@ use Rattle.word.specs.Word.Laws.{store-length}
 use Rattle.relr.specs.Words.{fit}
 use Rattle.relr.specs.Table.{spaceOf, decode, ends, leading, within, targets, added, patched}
 use Rattle.relr.specs.Contract.{applying, changed, imageAfter, Applies, AppliesIn}
-use Rattle.relr.specs.declared.place.Place.{Place}
-use Rattle.relr.specs.declared.place.Place.the-variants.{Nowhere}
+use Rattle.relr.specs.Place.{Place, Nowhere}
 use Rattle.relr.specs.declared.place.Opened.{Opened}
-use Rattle.relr.specs.declared.place.Opened.the-variants.{Marks, Refused}
-use Rattle.relr.specs.Inner.{Placed, marksOf, OpensAt, wordsRead, below, Good, Patchable, Targeted, Patched, above}
+use Rattle.relr.specs.declared.place.Opened.the-variants.{Address, Marks, Refused}
+use Rattle.relr.specs.Inner.{marksOf, OpensAt, wordsRead, below, Good, Patchable, Targeted, Patched, above}
 use Rattle.relr.proofs.Leading.{within-same}
-use Rattle.relr.proofs.Passed.{fit-at, fit-middle, Standing, standing-begin, standing-placed, standing-load, standing-end, Word, word-refused, word-marks, word-done, word-good, Marking, marking-begin, marking-less, marking-head, marking-set, marking-clear, marking-dist, marking-end}
+use Rattle.relr.proofs.PlaceNeeds.{one-mark}
+use Rattle.relr.proofs.Passed.{fit-at, fit-middle, Standing, standing-begin, standing-load, standing-end, Word, word-refused, word-marks, word-one, word-done, word-good, Marking, marking-begin, marking-less, marking-head, marking-set, marking-clear, marking-dist, marking-end}
 use Rattle.relr.proofs.Decoding.{decode-good}
 use Rattle.relr.proofs.FillNeeds.{mark-dist}
 use Rattle.relr.proofs.ScanNeeds.{step-fits, step-less}
@@ -131,39 +131,50 @@ module _ {k : Class} {s old : List ℕ} {base : ℕ} (f : Targeted k s old) wher
     pub working-end : length s ≤ at → Patched k s base old image
     working-end h l e = let q : l ≡ g .list = cc (standing-end (g .standing) h) in g .held ∙ rw q
 
+    module _ {start set : ℕ} {next : Place} (word : Word k s (g .list) at start set next) where
+      inside : fit (bytesOf k) (length image) (marksOf k set start) ≡ true
+      inside =
+          let a = word-good word (f .good .is) in
+          rw working-long
+          (fit-middle (bytesOf k) (length old) (g .list) (marksOf k set start) (a .rest) (sym (ap (fit (bytesOf k) (length old)) (a .whole)) ∙ f .fits))
+
+      more : {new : List ℕ} {c : ℕ} → c ≡ bytesOf k → new ≡ patched (bytesOf k) base (marksOf k set start) image → Working k s old base (at + c) next new
+      more {new} {c} ce u =
+          record {
+            list = g .list ++ marksOf k set start;
+            standing = subst (λ (b : ℕ). Standing k s (g .list ++ marksOf k set start) (at + b) next) (sym ce) (word-done word (word-good word (f .good .is) .fits));
+            held = u ∙ rw (g .held, patched-append);
+          }
+
     module _ {x : ℕ} {r : Opened} (l : at < length s) (e : x ≡ wordAt (bytesOf k) s at) (o : OpensAt k p x r) where
       pub working-not : {why : Refusal} {new : List ℕ} → r ≡ Refused why → Patched k s base old new
       working-not q = absurd (accepted-refused (f .good .is) (word-refused (g .standing) l e o q))
+
+      module _ {y : ℕ} {next : Place} (q : r ≡ Address y next) where
+        alone : Word k s (g .list) at y 1 next
+        alone = word-one (g .standing) l e o q
+
+        pub working-in : y + bytesOf k ≤ length image
+        working-in = fit-at (bytesOf k) (length image) y [] [] (sym (ap (fit (bytesOf k) (length image)) (one-mark k y)) ∙ inside alone)
+
+        pub working-one : {new : List ℕ} {c : ℕ} → c ≡ bytesOf k → new ≡ added (bytesOf k) base image y → Working k s old base (at + c) next new
+        working-one ce u = more alone ce (u ∙ rw (one-mark k y) (sym (patched-one (bytesOf k) base y image)))
 
       module _ {start set : ℕ} {next : Place} (q : r ≡ Marks start set next) where
         word : Word k s (g .list) at start set next
         word = word-marks (g .standing) l e o q
 
         pub working-marks : Patchable k image start set
-        working-marks =
-            let a = word-good word (f .good .is) in
-            record {
-              in-window = word .in-window;
-              fits = rw working-long
-                  (fit-middle (bytesOf k) (length old) (g .list) (marksOf k set start) (a .rest) (sym (ap (fit (bytesOf k) (length old)) (a .whole)) ∙ f .fits));
-            }
+        working-marks = record { in-window = word .in-window; fits = inside word }
 
         pub working-more : {new : List ℕ} {c : ℕ} → c ≡ bytesOf k → new ≡ patched (bytesOf k) base (marksOf k set start) image → Working k s old base (at + c) next new
-        working-more {new} {c} ce u =
-            record {
-              list = g .list ++ marksOf k set start;
-              standing = subst (λ (b : ℕ). Standing k s (g .list ++ marksOf k set start) (at + b) next) (sym ce) (word-done word (word-good word (f .good .is) .fits));
-              held = u ∙ rw (g .held, patched-append);
-            }
+        working-more ce u = more word ce u
 
 module _ {k : Class} {s old : List ℕ} {base at : ℕ} {p : Place} {image : List ℕ} (g : Working k s old base at p image) where
-  pub working-placed : Placed k p
-  working-placed = standing-placed (g .standing)
-
   pub working-load : at < length s → at + bytesOf k ≤ length s
   working-load l = standing-load (g .standing) l
 
-pub ruleset workings = (working-begin, working-long, working-end, working-not, working-marks, working-more, working-placed, working-load, step-fits, step-less, needs)
+pub ruleset workings = (working-begin, working-long, working-end, working-not, working-in, working-one, working-marks, working-more, working-load, step-fits, step-less, needs)
 
 -- ---- applying as a whole
 pub places-none : (k : Class) (size c : ℕ) → c ≡ bytesOf k → size < c → 0 ≡ size + 1 - bytesOf k

@@ -22,17 +22,16 @@ use Rattle.word.specs.Word.{wordAt, firstWords}
 use Rattle.word.specs.Word.Laws.{words-more, words-none}
 use Rattle.relr.specs.Words.{Where, nowhere, from, marked, fit, read}
 use Rattle.relr.specs.Table.{spaceOf}
-use Rattle.relr.specs.declared.place.Place.{Place}
-use Rattle.relr.specs.declared.place.Place.the-variants.{Nowhere}
+use Rattle.relr.specs.Place.{Place, Nowhere, Stands}
 use Rattle.relr.specs.declared.place.Opened.{Opened}
-use Rattle.relr.specs.declared.place.Opened.the-variants.{Marks, Refused}
+use Rattle.relr.specs.declared.place.Opened.the-variants.{Address, Marks, Refused}
 use Rattle.relr.specs.declared.cursor.Cursor.{Cursor}
 use Rattle.relr.specs.declared.cursor.Step.{Step}
 use Rattle.relr.specs.declared.cursor.Step.the-variants.{Offset, End}
-use Rattle.relr.specs.Inner.{Placed, Stands, readOf, marksOf, Marked, Opens, OpensAt, Whole, wordsRead, Rests, Running, Starts, Steps}
+use Rattle.relr.specs.Inner.{readOf, marksOf, Marked, Opens, OpensAt, Whole, wordsRead, Rests, Running, Starts, Steps}
 use Rattle.relr.proofs.Marked.{marked-zero}
 use Rattle.relr.proofs.Steps.{marked-set, marked-clear}
-use Rattle.relr.proofs.Passed.{placed, fit-at, fit-tail, Standing, standing-begin}
+use Rattle.relr.proofs.Passed.{fit-at, fit-tail, Standing, standing-begin}
 use Rattle.relr.proofs.FillNeeds.{space-most}
 
 -- ---- at the start
@@ -56,9 +55,6 @@ cursor-starts k s l h e =
     }
 
 module _ {k : Class} {s : List ℕ} {at start d bits : ℕ} {p : Place} {l : List ℕ} (h : Rests k s at p start d bits l) where
-  pub rests-placed : Placed k p
-  rests-placed = placed k (h .w) p (h .stands)
-
   pub rests-load : at < length s → at + bytesOf k ≤ length s
   rests-load g = go (h .left) (h .long)
     where
@@ -165,10 +161,9 @@ module _ {k : Class} {s : List ℕ} {at start d bits : ℕ} {p : Place} {l : Lis
           let v = subst (Opens k (h .w) x) f (o (h .w) (h .stands)) in
           accepted-refused q (v (firstWords (bytesOf k) n (drop (at + bytesOf k) s)) at)
 
-      pub rests-more : (r : Opened) {first set : ℕ} {next : Place} → OpensAt k p x r → r ≡ Marks first set next → (c : ℕ) → c ≡ bytesOf k → Rests k s (at + c) next first 0 set l
-      rests-more r {first} {set} {next} o f c ce =
+      pub rests-more : {first set : ℕ} {next : Place} → Marked k (h .w) x first set next → (c : ℕ) → c ≡ bytesOf k → Rests k s (at + c) next first 0 set l
+      rests-more {first} {set} {next} v c ce =
           let (n, a, q) = split in
-          let v = subst (Opens k (h .w) x) f (o (h .w) (h .stands)) in
           go n a (v .v) (v .stands) (v .in-window) (fit (bytesOf k) (spaceOf k) (marksOf k set first)) refl
           (sym (v .is (firstWords (bytesOf k) n (drop (at + bytesOf k) s)) at) ∙ q)
         where
@@ -205,9 +200,6 @@ pub going-begin : (k : Class) (s : List ℕ) (c : Cursor) → Running k s c
 going-begin k s c r = record { some = r .list; has = r .before; keeps = λ l h. h }
 
 module _ {k : Class} {s : List ℕ} {at₀ start₀ d₀ bits₀ at start d bits : ℕ} {p₀ p : Place} (g : Going k s at₀ p₀ start₀ d₀ bits₀ at p start d bits) where
-  pub going-placed : Placed k p
-  going-placed = rests-placed (g .has)
-
   pub going-load : at < length s → at + bytesOf k ≤ length s
   going-load h = rests-load (g .has) h
 
@@ -224,9 +216,20 @@ module _ {k : Class} {s : List ℕ} {at₀ start₀ d₀ bits₀ at start d bits
       → (l : List ℕ) → Rests k s at₀ p₀ start₀ d₀ bits₀ l → l ≡ []
   going-not r z i e o f l h = absurd (rests-not (g .has) z i e r o f)
 
-  pub going-more : {x : ℕ} (r : Opened) {first set : ℕ} {next : Place} (c : ℕ) → bits ≡ 0 → at < length s → x ≡ wordAt (bytesOf k) s at → OpensAt k p x r → r ≡ Marks first set next → c ≡ bytesOf k
-      → Going k s at₀ p₀ start₀ d₀ bits₀ (at + c) next first 0 set
-  going-more r c z i e o f ce = record { some = g .some; has = rests-more (g .has) z i e r o f c ce; keeps = λ l h. rests-more (g .keeps l h) z i e r o f c ce }
+  module _ {x : ℕ} (r : Opened) {first : ℕ} {next : Place} (c : ℕ) (z : bits ≡ 0) (i : at < length s) (e : x ≡ wordAt (bytesOf k) s at) (o : OpensAt k p x r) where
+    more : {set : ℕ} → ((w : Where) → Stands k w p → Marked k w x first set next) → c ≡ bytesOf k → Going k s at₀ p₀ start₀ d₀ bits₀ (at + c) next first 0 set
+    more m ce =
+        record {
+          some = g .some;
+          has = rests-more (g .has) z i e (m (g .has .w) (g .has .stands)) c ce;
+          keeps = λ l h. let q = g .keeps l h in rests-more q z i e (m (q .w) (q .stands)) c ce;
+        }
+
+    pub going-more : {set : ℕ} → r ≡ Marks first set next → c ≡ bytesOf k → Going k s at₀ p₀ start₀ d₀ bits₀ (at + c) next first 0 set
+    going-more f ce = more (λ w s. subst (Opens k w x) f (o w s)) ce
+
+    pub going-one : r ≡ Address first next → c ≡ bytesOf k → Going k s at₀ p₀ start₀ d₀ bits₀ (at + c) next first 0 1
+    going-one f ce = more (λ w s. subst (Opens k w x) f (o w s)) ce
 
   module _ (o : bits % 2 ≡ 0 → ⊥) where
     nonzero : bits ≡ 0 → ⊥
@@ -246,4 +249,4 @@ pub load-less : (k : Class) (s : List ℕ) (at c bits b : ℕ) → c ≡ bytesOf
     → (length s - (at + c)) * 2 ^ 64 + bits < (length s - at) * 2 ^ 64 + b
 load-less k s at c bits b e h l = omega (arith, bytes-least k)
 
-pub ruleset cursors = (cursor-starts, going-begin, going-placed, going-load, going-dist, going-clear, going-end, going-not, going-more, going-fits, going-far, going-set, load-less, needs)
+pub ruleset cursors = (cursor-starts, going-begin, going-load, going-dist, going-clear, going-end, going-not, going-more, going-one, going-fits, going-far, going-set, load-less, needs)

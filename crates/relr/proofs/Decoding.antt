@@ -68,7 +68,16 @@ module _ (k : Class) (s : List ℕ) (bound : ℕ) where
       → f ≡ foundOf (within (below bound) (decode k s))
   find-words q e z h = q ∙ ap (λ (o : Outcome (List ℕ)). foundOf (within (below bound) o)) (sym (decode-whole k s (find-whole e z h)))
 
-pub ruleset finding = (find-long, find-part, find-whole, find-words, needs)
+-- the same where the code names the class
+module _ {k j : Class} (s : List ℕ) (bound : ℕ) (same : k ≡ j) where
+  pub named-whole : {r : ℕ} → r ≡ length s % bytesOf k → r ≤ 0 → length s ≤ inputLimit → Whole j s
+  named-whole e z h = subst (λ (i : Class). Whole i s) same (find-whole k s bound e z h)
+
+  pub named-words : {r : ℕ} {f : Found} → f ≡ foundOf (within (below bound) (wordsRead j s)) → r ≡ length s % bytesOf k → r ≤ 0 → length s ≤ inputLimit
+      → f ≡ foundOf (within (below bound) (decode k s))
+  named-words {f = f} q e z h = find-words k s bound (subst (λ (i : Class). f ≡ foundOf (within (below bound) (wordsRead i s))) (sym same) q) e z h
+
+pub ruleset finding = (find-long, find-part, named-whole, named-words, needs)
 
 -- ---- every offset of an accepted table has its word inside the space
 reads-fit : (c n top : ℕ) {w : Where} {t l : List ℕ} → Reads c n top w t l → fit c top l ≡ true

@@ -26,12 +26,12 @@ use Rattle.word.specs.Word.{wordAt}
 use Rattle.relr.specs.Words.{fit}
 use Rattle.relr.specs.Table.{spaceOf, decode, within}
 use Rattle.relr.specs.Contract.{itself, ReadsIn}
-use Rattle.relr.specs.declared.place.Place.{Place}
-use Rattle.relr.specs.declared.place.Place.the-variants.{Nowhere}
+use Rattle.relr.specs.Place.{Place, Nowhere}
 use Rattle.relr.specs.declared.place.Opened.{Opened}
-use Rattle.relr.specs.declared.place.Opened.the-variants.{Marks, Refused}
-use Rattle.relr.specs.Inner.{Placed, marksOf, OpensAt, wordsRead, below, Markable, Put, Good, Fillable, Filled}
-use Rattle.relr.proofs.Passed.{fit-at, Standing, standing-begin, standing-placed, standing-load, standing-end, Word, word-refused, word-marks, word-done, word-good, among-long, Marking, marking-begin, marking-less, marking-head, marking-set, marking-clear, marking-dist, marking-end}
+use Rattle.relr.specs.declared.place.Opened.the-variants.{Address, Marks, Refused}
+use Rattle.relr.specs.Inner.{marksOf, OpensAt, wordsRead, below, Markable, Put, Good, Fillable, Filled}
+use Rattle.relr.proofs.PlaceNeeds.{one-mark}
+use Rattle.relr.proofs.Passed.{fit-at, Standing, standing-begin, standing-load, standing-end, Word, word-refused, word-marks, word-one, word-done, word-good, among-long, Marking, marking-begin, marking-less, marking-head, marking-set, marking-clear, marking-dist, marking-end}
 use Rattle.relr.proofs.Decoding.{decode-good, within-space}
 use Rattle.relr.proofs.ScanNeeds.{step-fits, step-less}
 
@@ -128,34 +128,51 @@ module _ {k : Class} {s old : List ℕ} (f : Fillable k s old) where
     pub reading-end : length s ≤ at → Filled k s old column
     reading-end h l e = let q : l ≡ g .list = cc (standing-end (g .standing) h) in g .held ∙ rw (q, g .next)
 
+    module _ {start set : ℕ} {next : Place} (word : Word k s (g .list) at start set next) where
+      room : length (g .list) + length (marksOf k set start) ≤ length old
+      room = omega (arith, among-long (word-good word (f .good .is)), f .room)
+
+      more : {new : List ℕ} {c n : ℕ} → c ≡ bytesOf k → Put column i (marksOf k set start) n new → Reading k s old (at + c) next new n
+      more {new} {c} {n} ce u =
+          record {
+            list = g .list ++ marksOf k set start;
+            standing = subst (λ (b : ℕ). Standing k s (g .list ++ marksOf k set start) (at + b) next) (sym ce) (word-done word (word-good word (f .good .is) .fits));
+            next = omega (arith, u .next, g .next, length-append (g .list) (marksOf k set start));
+            held = u .list ∙ buffer-more (g .list) old i (marksOf k set start) (g .held) (sym (g .next)) (omega (arith, room, g .next)) ∙ rw (u .next);
+          }
+
     module _ {x : ℕ} {r : Opened} (l : at < length s) (e : x ≡ wordAt (bytesOf k) s at) (o : OpensAt k p x r) where
       pub reading-not : {why : Refusal} {new : List ℕ} → r ≡ Refused why → Filled k s old new
       reading-not q = absurd (accepted-refused (f .good .is) (word-refused (g .standing) l e o q))
+
+      module _ {y : ℕ} {next : Place} (q : r ≡ Address y next) where
+        alone : Word k s (g .list) at y 1 next
+        alone = word-one (g .standing) l e o q
+
+        pub reading-in : i < length column
+        reading-in = omega (arith, room alone, ap length (one-mark k y), reading-long, g .next)
+
+        pub reading-scaled : length old * 8 < 2 ^ 63 → Fits w64 (i * 8)
+        reading-scaled b = scaled-fits i (length old) 8 (omega (arith, reading-in, reading-long)) b
+
+        pub reading-next : length old < 2 ^ 64 → Fits w64 (i + 1)
+        reading-next b = record { fits = omega (arith, reading-in, reading-long) }
+
+        pub reading-one : {c : ℕ} → c ≡ bytesOf k → Reading k s old (at + c) next (stored column i y) (i + 1)
+        reading-one ce = let m = one-mark k y in let e : i + 1 ≡ i + length (marksOf k 1 y) = omega (arith, ap length m) in more alone ce (record { next = e; list = rw m })
 
       module _ {start set : ℕ} {next : Place} (q : r ≡ Marks start set next) where
         word : Word k s (g .list) at start set next
         word = word-marks (g .standing) l e o q
 
-        room : length (g .list) + length (marksOf k set start) ≤ length old
-        room = omega (arith, among-long (word-good word (f .good .is)), f .room)
-
         pub reading-marks : Markable k column i start set
-        reading-marks = record { in-window = word .in-window; fits = word-good word (f .good .is) .fits; room = omega (arith, room, reading-long, g .next) }
+        reading-marks = record { in-window = word .in-window; fits = word-good word (f .good .is) .fits; room = omega (arith, room word, reading-long, g .next) }
 
         pub reading-more : {new : List ℕ} {c n : ℕ} → c ≡ bytesOf k → Put column i (marksOf k set start) n new → Reading k s old (at + c) next new n
-        reading-more {new} {c} {n} ce u =
-            record {
-              list = g .list ++ marksOf k set start;
-              standing = subst (λ (b : ℕ). Standing k s (g .list ++ marksOf k set start) (at + b) next) (sym ce) (word-done word (word-good word (f .good .is) .fits));
-              next = omega (arith, u .next, g .next, length-append (g .list) (marksOf k set start));
-              held = u .list ∙ buffer-more (g .list) old i (marksOf k set start) (g .held) (sym (g .next)) (omega (arith, room, g .next)) ∙ rw (u .next);
-            }
+        reading-more ce u = more word ce u
 
 module _ {k : Class} {s old : List ℕ} {at : ℕ} {p : Place} {column : List ℕ} {i : ℕ} (g : Reading k s old at p column i) where
-  pub reading-placed : Placed k p
-  reading-placed = standing-placed (g .standing)
-
   pub reading-load : at < length s → at + bytesOf k ≤ length s
   reading-load l = standing-load (g .standing) l
 
-pub ruleset readings = (reading-begin, reading-long, reading-end, reading-not, reading-marks, reading-more, reading-placed, reading-load, step-fits, step-less, needs)
+pub ruleset readings = (reading-begin, reading-long, reading-end, reading-not, reading-in, reading-scaled, reading-next, reading-one, reading-marks, reading-more, reading-load, step-fits, step-less, needs)

@@ -5,11 +5,11 @@ use mathlib.Core.List.{List, [], _∷_, _++_}
 use mathlib.Core.Path.{_≡_, refl, sym, ap, _∙_}
 use Prim.Native.Nat.{ℕ, suc, _+_, _≤_, _<_}
 use native.Mathlib.Omega.{arith}
-use native.Mathlib.Decide.{ℕ-discrete}
+use native.Mathlib.Decide.{decLt}
 use native.Mathlib.Numerals.{add-one}
-use lib.Dec.{eqb, eqb·suc-suc}
-use lib.ListN.{length}
-use borrow.Author.Tests.{eq-eqb, ne-eqb}
+use lib.Dec.{leb, ltb, eqb, eqb·suc-suc}
+use lib.ListN.{length, length-append}
+use borrow.Author.Tests.{eq-eqb, ne-eqb, lt-ltb, le-ltb, lt-leb, le-leb}
 use Rattle.answer.specs.declared.Refusal.{Refusal}
 use Rattle.answer.specs.declared.Refusal.the-variants.{Outside}
 use Rattle.answer.specs.declared.Found.the-variants.{Count}
@@ -18,6 +18,10 @@ use Rattle.answer.specs.Outcome.{Outcome, accepted, refused, foundOf}
 use Rattle.answer.specs.Outcome.Laws.{found-accepted, found-refused}
 use Rattle.relr.specs.Table.{leading, within}
 use Rattle.relr.specs.Inner.{below, grow, surveyed}
+
+-- a number that no count reaches
+abbrev pub none : ℕ
+none = 18446744073709551615
 
 module _ (test : ℕ → Bool) where
   pub leading-le : (l : List ℕ) → leading test l ≤ length l
@@ -73,20 +77,46 @@ within-same t u h (accepted l) = rw (leading-same t u h l)
 within-same t u h (refused why p) = refl
 
 -- ---- as the code counts
-module _ (bound count inside : ℕ) (l : List ℕ) (e : count ≡ length l) (f : inside ≡ leading (below bound) l) where
-  pub inside-le : inside ≤ count
-  inside-le = omega (arith, leading-le (below bound) l)
+-- while all of l are below the bound the index is a number that no count reaches; then it is that of the first that is not
+pub data Leads (bound first : ℕ) (l : List ℕ) : Type 0 where
+  all : first ≡ none → leading (below bound) l ≡ length l → Leads bound first l
+  some : first ≡ leading (below bound) l → leading (below bound) l < length l → Leads bound first l
 
-  pub grow-is : (x : ℕ) → grow inside count x bound ≡ leading (below bound) (l ++ x ∷ [])
-  grow-is x = rw (e, f) (sym (leading-more (below bound) l x))
+pub leads-begin : (bound : ℕ) → Leads bound none []
+unfolding leading
+leads-begin bound = all refl refl
 
-  pub survey-is : {o : Outcome (List ℕ)} → o ≡ accepted l → surveyed count inside ≡ foundOf (within (below bound) o)
-  survey-is {o} a = go (ℕ-discrete inside count)
+module _ {bound count first : ℕ} {l : List ℕ} (e : count ≡ length l) where
+  pub leads-more : (x : ℕ) → count < none → Leads bound first l → Leads bound (grow first count x bound) (l ++ x ∷ [])
+  leads-more x h (all f g) = go (decLt x bound)
     where
-      go : Dec (inside ≡ count) → surveyed count inside ≡ foundOf (within (below bound) o)
+      long : length (l ++ x ∷ []) ≡ length l + 1
+      long = length-append l (x ∷ [])
+
+      more : leading (below bound) (l ++ x ∷ []) ≡ cond (ltb x bound) (leading (below bound) l + 1) (leading (below bound) l)
+      more = leading-more (below bound) l x ∙ rw (eq-eqb (leading (below bound) l) (length l) g)
+
+      go : Dec (x < bound) → Leads bound (grow first count x bound) (l ++ x ∷ [])
       go (yes q) =
-          rw (eq-eqb inside count q)
-          (sym (found-accepted (record { list = l; is = within-all (below bound) a (omega arith); long = sym e })))
+          let m : leading (below bound) (l ++ x ∷ []) ≡ leading (below bound) l + 1 = more ∙ rw (lt-ltb x bound q) in
+          all (rw (lt-leb bound x q) f) (omega (arith, m, g, long))
       go (no q) =
-          rw (ne-eqb inside count q)
-          (ap (found.Refused Outside) f ∙ sym (found-refused (within-not (below bound) a λ z. q (f ∙ z ∙ sym e))))
+          let b : bound ≤ x = omega arith in
+          let m : leading (below bound) (l ++ x ∷ []) ≡ leading (below bound) l = more ∙ rw (le-ltb x bound b) in
+          some (rw (le-leb bound x b, lt-ltb count first (omega arith)) (omega (arith, m, g))) (omega (arith, m, g, long))
+  leads-more x h (some f g) =
+      let m : leading (below bound) (l ++ x ∷ []) ≡ leading (below bound) l =
+      leading-more (below bound) l x ∙ rw (ne-eqb (leading (below bound) l) (length l) (λ z. absurd (omega arith))) in
+      some (still (leb bound x) ∙ f ∙ sym m) (omega (arith, m, g, length-append l (x ∷ [])))
+    where
+      still : (b : Bool) → cond b (cond (ltb count first) count first) first ≡ first
+      still true = rw (le-ltb count first (omega arith))
+      still false = refl
+
+  pub leads-end : {o : Outcome (List ℕ)} → count < none → Leads bound first l → o ≡ accepted l → surveyed count first ≡ foundOf (within (below bound) o)
+  leads-end h (all f g) a =
+      rw (le-ltb first count (omega arith))
+      (sym (found-accepted (record { list = l; is = within-all (below bound) a g; long = sym e })))
+  leads-end h (some f g) a =
+      rw (lt-ltb first count (omega arith))
+      (ap (found.Refused Outside) f ∙ sym (found-refused (within-not (below bound) a λ z. absurd (omega arith))))

@@ -17,17 +17,16 @@ use Rattle.word.specs.Class.{bytesOf, bitsOf, windowOf}
 use Rattle.word.specs.Class.Laws.{bytes-least, bytes-most}
 use Rattle.relr.specs.Words.{Where, nowhere, from, falls, bit, word, write, table}
 use Rattle.relr.specs.Table.{spaceOf}
-use Rattle.relr.specs.declared.place.Place.{Place}
-use Rattle.relr.specs.declared.place.Place.the-variants.{Nowhere, At, Beyond}
+use Rattle.relr.specs.Place.{Place, Nowhere, Beyond, Stands, within, unset, past}
 use Rattle.relr.specs.declared.packer.Location.{Location}
 use Rattle.relr.specs.declared.packer.Location.the-variants.{On, Off}
 use Rattle.relr.specs.declared.packer.Pending.{Pending}
 use Rattle.relr.specs.declared.packer.Packed.{Packed}
 use Rattle.relr.specs.declared.packer.Packed.the-variants.{Joined, Alone, Flushed, Both}
-use Rattle.relr.specs.Inner.{Placed, Stands, fallsAt, Located, LocatedAt, Small, ForwardFrom, wordsFor, Bits, Holding, Adds, Adding, Packs, Flushes}
+use Rattle.relr.specs.Inner.{fallsAt, Located, LocatedAt, Small, ForwardFrom, wordsFor, Bits, Holding, Adds, Adding, Packs, Flushes}
 use Rattle.relr.proofs.Marked.{falls-on, on-falls}
 use Rattle.relr.proofs.Steps.{falls-low, write-join, write-flush, write-word}
-use Rattle.relr.proofs.PlaceNeeds.{space-window, bitmap-in}
+use Rattle.relr.proofs.PlaceNeeds.{stands-within, bitmap-in}
 
 -- ---- a bit
 pub bit-is : {j : ℕ} → j < 63 → 1 * 2 ^ j % 2 ^ 64 ≡ 2 ^ j
@@ -46,51 +45,43 @@ falls-far : (c n v x : ℕ) → n ≤ (x - v) / c → falls c n v x ≡ false
 unfolding falls
 falls-far c n v x h = rw (le-ltb ((x - v) / c) n h, and-false (eqb ((x - v) % c) 0)) (and-false (leb v x))
 
-module _ (k : Class) (v x : ℕ) where
-  off : falls (bytesOf k) (windowOf k) v x ≡ false → LocatedAt k (At v) x Off
-  off h w s = subst (λ (u : Where). fallsAt k u x ≡ false) (sym (s .0)) h
+-- an offset of the space is below each number that is none
+module _ (k : Class) (p : Place) (x : ℕ) (h : x + bytesOf k ≤ spaceOf k) where
+  pub off-low : x < p → LocatedAt k p x Off
+  off-low l w (within e g) = rw e (falls-low (bytesOf k) (windowOf k) p x l)
+  off-low l w (unset e f) = rw e
+  off-low l w (past v e g f) = rw e (falls-low (bytesOf k) (windowOf k) v x (omega arith))
 
-  pub off-low : x < v → LocatedAt k (At v) x Off
-  off-low h = off (falls-low (bytesOf k) (windowOf k) v x h)
+  module _ (le : p ≤ x) where
+    inside : p + bytesOf k ≤ spaceOf k
+    inside = omega arith
 
-  pub off-rest : (r : ℕ) → r ≡ (x - v) % bytesOf k → 0 < r → LocatedAt k (At v) x Off
-  off-rest r e h = off (falls-rest (bytesOf k) (windowOf k) v x (omega arith))
+    off : falls (bytesOf k) (windowOf k) p x ≡ false → LocatedAt k p x Off
+    off f w s = rw (stands-within inside s) f
 
-  pub off-far : (j n : ℕ) → j ≡ (x - v) / bytesOf k → n ≡ windowOf k → n ≤ j → LocatedAt k (At v) x Off
-  off-far j n e f h = off (falls-far (bytesOf k) (windowOf k) v x (omega arith))
+    pub off-rest : (r : ℕ) → r ≡ (x - p) % bytesOf k → 0 < r → LocatedAt k p x Off
+    off-rest r e l = off (falls-rest (bytesOf k) (windowOf k) p x (omega arith))
 
-  pub on-at : (r j n : ℕ) → r ≡ (x - v) % bytesOf k → r ≤ 0 → j ≡ (x - v) / bytesOf k → n ≡ windowOf k → j < n → v ≤ x → LocatedAt k (At v) x (On j)
-  on-at r j n e h f g l m w s =
-      let z : x ≡ v + (x - v) / bytesOf k * bytesOf k = omega (arith, div-add-mod' (x - v) (bytesOf k)) in
-      (v, s .0, on-falls (bytesOf k) (windowOf k) v x (omega (arith, bytes-least k)) ((x - v) / bytesOf k, omega arith, z), f)
+    pub off-far : (j n : ℕ) → j ≡ (x - p) / bytesOf k → n ≡ windowOf k → n ≤ j → LocatedAt k p x Off
+    off-far j n e f l = off (falls-far (bytesOf k) (windowOf k) p x (omega arith))
 
-module _ (k : Class) (p : Place) (x : ℕ) where
-  pub off-nowhere : p ≡ Nowhere → LocatedAt k p x Off
-  off-nowhere e w s = let q : w ≡ nowhere = subst (Stands k w) e s in rw q
+    pub on-at : (r j n : ℕ) → r ≡ (x - p) % bytesOf k → r ≤ 0 → j ≡ (x - p) / bytesOf k → n ≡ windowOf k → j < n → LocatedAt k p x (On j)
+    on-at r j n e z f g l w s =
+        let y : x ≡ p + (x - p) / bytesOf k * bytesOf k = omega (arith, div-add-mod' (x - p) (bytesOf k)) in
+        (p, stands-within inside s, on-falls (bytesOf k) (windowOf k) p x (omega (arith, bytes-least k)) ((x - p) / bytesOf k, omega arith, y), f)
 
-  pub off-beyond : p ≡ Beyond → x + bytesOf k ≤ spaceOf k → LocatedAt k p x Off
-  off-beyond e h w s =
-      let q = subst (Stands k w) e s in
-      subst (λ (u : Where). fallsAt k u x ≡ false) (sym (q .1)) (falls-low (bytesOf k) (windowOf k) (q .0) x (omega (arith, q .2)))
+-- ---- the next bitmap; r is the last offset of the space
+module _ (k : Class) (p r : ℕ) (h : r + bytesOf k ≡ spaceOf k) where
+  pub forward-far : r < p → ForwardFrom k p Beyond
+  forward-far l v (within e g) = absurd (omega arith)
+  forward-far l v (unset e f) = let z : _≡_ {A = ℕ} 0 1 = cc in absurd (omega arith)
+  forward-far l v (past u e g f) = let z : v ≡ u = cc in past (v + windowOf k * bytesOf k) refl (omega arith) refl
 
-  pub located-at : {v : ℕ} (r : Location) → p ≡ At v → LocatedAt k (At v) x r → LocatedAt k p x r
-  located-at r e f w s = f w (subst (Stands k w) e s)
-
--- ---- the next bitmap
-module _ (k : Class) (p : Place) where
-  pub forward-nowhere : p ≡ Nowhere → ForwardFrom k p Beyond
-  forward-nowhere e v s = let q : from v ≡ nowhere = subst (Stands k (from v)) e s in let z : _≡_ {A = ℕ} 0 1 = cc in absurd (omega arith)
-
-  pub forward-beyond : p ≡ Beyond → ForwardFrom k p Beyond
-  forward-beyond e v s =
-      let q = subst (Stands k (from v)) e s in
-      let z : v ≡ q .0 = cc (q .1) in
-      (v + windowOf k * bytesOf k, refl, omega (arith, q .2))
-
-  pub forward-at : {u d : ℕ} (r : Place) → p ≡ At u → d ≡ windowOf k * bytesOf k → Stands k (from (u + d)) r → ForwardFrom k p r
-  forward-at {u} {d} r e f g v s =
-      let q = subst (Stands k (from v)) e s in
-      let z : v ≡ u = cc (q .0) in
+  pub forward-at : {d : ℕ} (q : Place) → p ≤ r → d ≡ windowOf k * bytesOf k → Stands k (from (p + d)) q → ForwardFrom k p q
+  forward-at {d} q l f g v s =
+      let a : p + bytesOf k ≤ spaceOf k = omega arith in
+      let e : from v ≡ from p = stands-within a s in
+      let z : v ≡ p = cc in
       rw (z, ← f) g
 
 -- ---- an offset joins the pending bitmap
@@ -223,6 +214,6 @@ pub flush-is : (k : Class) (p : Place) (b x : ℕ) (r : Packed) → LocatedAt k 
     → (w : Where) (lo : ℕ) → Holding k lo w p b → lo ≤ x → Adding k w b x r
 flush-is k p b x r o pos f w lo h l = f w lo h l (o w (h .stands)) pos
 
-pub ruleset locating = (bit-is, off-low, off-rest, off-far, on-at, off-nowhere, off-beyond, located-at, forward-nowhere, forward-beyond, forward-at, bitmap-in, small-on, small-off, needs)
+pub ruleset locating = (bit-is, off-low, off-rest, off-far, on-at, forward-far, forward-at, bitmap-in, small-on, small-off, needs)
 
 pub ruleset packing = (join-is, alone-is, open-is, both-is, flush-is, small-is, bit-sum, located-on, located-off, needs)

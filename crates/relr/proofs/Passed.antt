@@ -26,14 +26,12 @@ use Rattle.word.specs.Word.{wordAt, wordsOf, firstWords}
 use Rattle.word.specs.Word.Laws.{words-first, words-more, words-none}
 use Rattle.relr.specs.Words.{Where, nowhere, from, marked, fit, read}
 use Rattle.relr.specs.Table.{spaceOf, leading, within}
-use Rattle.relr.specs.declared.place.Place.{Place}
-use Rattle.relr.specs.declared.place.Place.the-variants.{Nowhere, At, Beyond}
+use Rattle.relr.specs.Place.{Place, Nowhere, Stands, unset}
 use Rattle.relr.specs.declared.place.Opened.{Opened}
-use Rattle.relr.specs.declared.place.Opened.the-variants.{Marks, Refused}
-use Rattle.relr.specs.Inner.{Placed, Stands, readOf, marksOf, Marked, Opens, OpensAt, Whole, wordsRead, below, grow, surveyed}
+use Rattle.relr.specs.declared.place.Opened.the-variants.{Address, Marks, Refused}
+use Rattle.relr.specs.Inner.{readOf, marksOf, Marked, Opens, OpensAt, Whole, wordsRead, below, grow, surveyed}
 use Rattle.relr.proofs.Marked.{marked-zero}
 use Rattle.relr.proofs.Steps.{leb-true, leb-false, marked-set, marked-clear}
-use Rattle.relr.proofs.Leading.{within-refused, inside-le, grow-is, survey-is}
 
 -- ---- fits
 pub fit-append : (c top : ℕ) (p q : List ℕ) → fit c top p ≡ true → fit c top (p ++ q) ≡ fit c top q
@@ -88,11 +86,6 @@ pub fit-middle : (c top : ℕ) (p q r : List ℕ) → fit c top ((p ++ q) ++ r) 
 fit-middle c top p q r h = let g = fit-left c top (p ++ q) r h in sym (fit-append c top p q (fit-left c top p q g)) ∙ g
 
 -- ---- between two words
-pub placed : (k : Class) (w : Where) (p : Place) → Stands k w p → Placed k p
-placed k w Nowhere h = tt
-placed k w (At u) h = h .1
-placed k w Beyond h = tt
-
 -- the offsets passed, and the words left from a place of the table on
 pub record Standing (k : Class) (s list : List ℕ) (at : ℕ) (p : Place) : Type 0 where
   pub left : ℕ
@@ -108,14 +101,11 @@ standing-begin k s h =
       left = length s / bytesOf k;
       w = nowhere;
       long = omega (arith, div-add-mod' (length s) (bytesOf k), h .words);
-      stands = refl;
+      stands = unset refl refl;
       so = rw words-first (after-none _);
     }
 
 module _ {k : Class} {s list : List ℕ} {at : ℕ} {p : Place} (h : Standing k s list at p) where
-  pub standing-placed : Placed k p
-  standing-placed = placed k (h .w) p (h .stands)
-
   pub standing-load : at < length s → at + bytesOf k ≤ length s
   standing-load l = go (h .left) (h .long)
     where
@@ -156,6 +146,19 @@ module _ {k : Class} {s list : List ℕ} {at x : ℕ} {p : Place} (h : Standing 
       go zero f g = absurd (omega arith)
       go (suc n) f g = (n, omega arith, g ∙ rw (words-more (bytesOf k) n s at, e))
 
+  marks : {start set : ℕ} {next : Place} → Marked k (h .w) x start set next → Word k s list at start set next
+  marks z =
+      let (n, g, q) = split in
+      record {
+        in-space = z .in-space;
+        in-window = z .in-window;
+        left = n;
+        v = z .v;
+        long = g;
+        stands = z .stands;
+        so = q ∙ ap (after list) (z .is (firstWords (bytesOf k) n (drop (at + bytesOf k) s)) at);
+      }
+
   module _ {r : Opened} (o : OpensAt k p x r) where
     pub word-refused : {why : Refusal} → r ≡ Refused why → wordsRead k s ≡ refused why at
     word-refused {why} f =
@@ -164,18 +167,11 @@ module _ {k : Class} {s list : List ℕ} {at x : ℕ} {p : Place} (h : Standing 
         q ∙ ap (after list) (z (firstWords (bytesOf k) n (drop (at + bytesOf k) s)) at) ∙ after-refused list why at
 
     pub word-marks : {start set : ℕ} {next : Place} → r ≡ Marks start set next → Word k s list at start set next
-    word-marks f =
-        let (n, g, q) = split in
-        let z = subst (Opens k (h .w) x) f (o (h .w) (h .stands)) in
-        record {
-          in-space = z .in-space;
-          in-window = z .in-window;
-          left = n;
-          v = z .v;
-          long = g;
-          stands = z .stands;
-          so = q ∙ ap (after list) (z .is (firstWords (bytesOf k) n (drop (at + bytesOf k) s)) at);
-        }
+    word-marks f = marks (subst (Opens k (h .w) x) f (o (h .w) (h .stands)))
+
+    -- an address marks one location
+    pub word-one : {y : ℕ} {next : Place} → r ≡ Address y next → Word k s list at y 1 next
+    word-one f = marks (subst (Opens k (h .w) x) f (o (h .w) (h .stands)))
 
 -- a word all of whose locations fit
 pub word-done : {k : Class} {s list : List ℕ} {at start set : ℕ} {next : Place} → Word k s list at start set next

@@ -5,7 +5,7 @@ use mathlib.Core.List.{List, [], _∷_, _++_}
 use mathlib.Core.Path.{_≡_, refl, sym, ap, subst, _∙_}
 use Prim.Native.Nat.{ℕ, zero, suc, _+_, _-_, _*_, _/_, _%_, _^_, _≤_, _<_}
 use native.Mathlib.Omega.{arith}
-use lib.Dec.{leb, eqb}
+use lib.Dec.{leb, eqb, lit<}
 use lib.Pow.{pow-lt, pow-mono, pow-pos}
 use native.Mathlib.Decide.{decLt}
 use borrow.Author.Needs.{needs}
@@ -18,11 +18,10 @@ use Rattle.word.specs.Class.{bytesOf, bitsOf, windowOf}
 use Rattle.word.specs.Class.Laws.{bytes-least, bytes-most}
 use Rattle.relr.specs.Words.{Where, nowhere, from, marked, fit, anchored, read}
 use Rattle.relr.specs.Table.{spaceOf}
-use Rattle.relr.specs.declared.place.Place.{Place}
-use Rattle.relr.specs.declared.place.Place.the-variants.{Nowhere, At, Beyond}
+use Rattle.relr.specs.Place.{Place, Nowhere, Beyond, Stands, within, unset, past}
 use Rattle.relr.specs.declared.place.Opened.{Opened}
-use Rattle.relr.specs.declared.place.Opened.the-variants.{Marks, Refused}
-use Rattle.relr.specs.Inner.{Placed, Stands, readOf, marksOf, Marked, Opens, OpensAt}
+use Rattle.relr.specs.declared.place.Opened.the-variants.{Address, Marks, Refused}
+use Rattle.relr.specs.Inner.{readOf, marksOf, Marked, Opens, OpensAt}
 use Rattle.relr.proofs.Marked.{marked-zero}
 use Rattle.relr.proofs.Steps.{leb-true, leb-false, marked-set, marked-clear, read-address, read-address-far, read-unanchored, read-far}
 
@@ -63,18 +62,46 @@ module _ {k : Class} (n : ℕ) where
   pub whole-eight : k ≡ Eight → n / 8 ≡ n / bytesOf k
   whole-eight e = rw e
 
+-- ---- which place a number is
+pub place-far : (k : Class) → spaceOf k < Nowhere + bytesOf k
+place-far Four = lit< tt
+place-far Eight = lit< tt
+
+module _ {k : Class} {w : Where} {p : Place} where
+  -- an offset of the space
+  pub stands-within : p + bytesOf k ≤ spaceOf k → Stands k w p → w ≡ from p
+  stands-within h (within e g) = e
+  stands-within h (unset e f) = absurd (omega (arith, place-far k))
+  stands-within h (past v e g f) = absurd (omega (arith, place-far k))
+
+  pub stands-nowhere : p ≡ Nowhere → Stands k w p → w ≡ nowhere
+  stands-nowhere n (within e g) = absurd (omega (arith, place-far k))
+  stands-nowhere n (unset e f) = e
+  stands-nowhere n (past v e g f) = absurd (omega arith)
+
+  -- past every offset, and not unset
+  pub stands-past : spaceOf k < p + bytesOf k → (p ≡ Nowhere → ⊥) → Stands k w p → (v : ℕ) × (w ≡ from v) × (spaceOf k < v + bytesOf k)
+  stands-past h n (within e g) = absurd (omega arith)
+  stands-past h n (unset e f) = absurd (n f)
+  stands-past h n (past v e g f) = (v, e, g)
+
 -- ---- a step from one place to the next; r is the last offset of the space
 module _ (k : Class) (u d r : ℕ) (h : r + bytesOf k ≡ spaceOf k) (g : u + bytesOf k ≤ spaceOf k) where
   pub past-low : u ≤ r
   past-low = omega arith
 
   pub past-beyond : r - u < d → Stands k (from (u + d)) Beyond
-  past-beyond l = (u + d, refl, omega arith)
+  past-beyond l = past (u + d) refl (omega arith) refl
 
-  pub past-at : d ≤ r - u → Stands k (from (u + d)) (At (u + d))
-  past-at l = (refl, omega arith)
+  pub past-at : d ≤ r - u → Stands k (from (u + d)) (u + d)
+  past-at l = within refl (omega arith)
 
 -- ---- an even word
+pub one-mark : (k : Class) (x : ℕ) → marksOf k 1 x ≡ x ∷ []
+one-mark k x =
+    rw window-suc
+    (marked-set (bytesOf k) (windowOf k - 1) 1 x refl ∙ ap (λ (l : List ℕ). x ∷ l) (marked-zero (bytesOf k) (windowOf k - 1) (x + bytesOf k)))
+
 module _ (k : Class) (x r : ℕ) (even : x % 2 ≡ 0) (h : r + bytesOf k ≡ spaceOf k) where
   pub address-far : r < x → (w : Where) → Opens k w x (Refused Space)
   address-far l w t i = read-address-far (bytesOf k) (windowOf k) (spaceOf k) x t i w even (omega arith)
@@ -82,19 +109,14 @@ module _ (k : Class) (x r : ℕ) (even : x % 2 ≡ 0) (h : r + bytesOf k ≡ spa
   pub address-in : x ≤ r → x + bytesOf k ≤ spaceOf k
   address-in l = omega arith
 
-  one-mark : marksOf k 1 x ≡ x ∷ []
-  one-mark =
-      rw window-suc
-      (marked-set (bytesOf k) (windowOf k - 1) 1 x refl ∙ ap (λ (l : List ℕ). x ∷ l) (marked-zero (bytesOf k) (windowOf k - 1) (x + bytesOf k)))
-
   one-read : (t : List ℕ) (i : ℕ) (w : Where) → x + bytesOf k ≤ spaceOf k
       → readOf k (x ∷ t) i w
       ≡ cond (fit (bytesOf k) (spaceOf k) (marksOf k 1 x)) (after (marksOf k 1 x) (readOf k t (i + bytesOf k) (from (x + bytesOf k)))) (refused Space i)
   unfolding fit
   one-read t i w l =
-      rw (one-mark, leb-true (x + bytesOf k) (spaceOf k) l) (read-address (bytesOf k) (windowOf k) (spaceOf k) x t i w even l)
+      rw (one-mark k x, leb-true (x + bytesOf k) (spaceOf k) l) (read-address (bytesOf k) (windowOf k) (spaceOf k) x t i w even l)
 
-  pub address-marks : {b : ℕ} {p : Place} → x ≤ r → b ≡ bytesOf k → Stands k (from (x + b)) p → (w : Where) → Opens k w x (Marks x 1 p)
+  pub address-marks : {b : ℕ} {p : Place} → x ≤ r → b ≡ bytesOf k → Stands k (from (x + b)) p → (w : Where) → Opens k w x (Address x p)
   address-marks l e s w =
       let g : 0 < windowOf k = omega (arith, bytes-least k) in
       record { in-space = omega arith; in-window = pow-lt g; v = x + bytesOf k; stands = rw e at s; is = λ t i. one-read t i w (omega arith) }
@@ -119,51 +141,51 @@ odd-read c n top x t i u e = rw e
 
 module _ (k : Class) (p : Place) (bits x : ℕ) (odd : x % 2 ≡ 1) (half : x / 2 ≡ bits) where
   pub bitmap-nowhere : p ≡ Nowhere → OpensAt k p x (Refused Order)
-  bitmap-nowhere e w s t i =
-      let q : w ≡ nowhere = subst (Stands k w) e s in
-      rw q (read-unanchored (bytesOf k) (windowOf k) (spaceOf k) x t i odd)
+  bitmap-nowhere e w s t i = rw (stands-nowhere e s) (read-unanchored (bytesOf k) (windowOf k) (spaceOf k) x t i odd)
 
-  pub bitmap-beyond : p ≡ Beyond → (bits ≡ 0 → ⊥) → bits < 2 ^ windowOf k → OpensAt k p x (Refused Space)
-  bitmap-beyond e nz l w s t i =
-      let q = subst (Stands k w) e s in
-      let f : fit (bytesOf k) (spaceOf k) (marksOf k (x / 2) (q .0)) ≡ false =
-      rw half (far-unfit (bytesOf k) (spaceOf k) (windowOf k) bits (q .0) (q .2) (omega arith) l) in
-      ap (readOf k (x ∷ t) i) (q .1) ∙ odd-read (bytesOf k) (windowOf k) (spaceOf k) x t i (q .0) odd ∙ rw f
+  -- r is the last offset of the space
+  module _ (r : ℕ) (h : r + bytesOf k ≡ spaceOf k) (far : r < p) (set : p ≡ Nowhere → ⊥) where
+    pub bitmap-beyond : (bits ≡ 0 → ⊥) → bits < 2 ^ windowOf k → OpensAt k p x (Refused Space)
+    bitmap-beyond nz l w s t i =
+        let q = stands-past (omega arith) set s in
+        let f : fit (bytesOf k) (spaceOf k) (marksOf k (x / 2) (q .0)) ≡ false =
+        rw half (far-unfit (bytesOf k) (spaceOf k) (windowOf k) bits (q .0) (q .2) (omega arith) l) in
+        ap (readOf k (x ∷ t) i) (q .1) ∙ odd-read (bytesOf k) (windowOf k) (spaceOf k) x t i (q .0) odd ∙ rw f
 
-  empty-read : (u : ℕ) (t : List ℕ) (i : ℕ) → bits ≡ 0
-      → readOf k (x ∷ t) i (from u)
-      ≡ cond (fit (bytesOf k) (spaceOf k) (marksOf k 0 0)) (after (marksOf k 0 0) (readOf k t (i + bytesOf k) (from (u + windowOf k * bytesOf k)))) (refused Space i)
-  empty-read u t i z =
-      let e : x / 2 ≡ 0 = half ∙ z in
-      odd-read (bytesOf k) (windowOf k) (spaceOf k) x t i u odd ∙ rw (e, marked-zero (bytesOf k) (windowOf k) u, marked-zero (bytesOf k) (windowOf k) 0)
+    empty-read : (u : ℕ) (t : List ℕ) (i : ℕ) → bits ≡ 0
+        → readOf k (x ∷ t) i (from u)
+        ≡ cond (fit (bytesOf k) (spaceOf k) (marksOf k 0 0)) (after (marksOf k 0 0) (readOf k t (i + bytesOf k) (from (u + windowOf k * bytesOf k)))) (refused Space i)
+    empty-read u t i z =
+        let e : x / 2 ≡ 0 = half ∙ z in
+        odd-read (bytesOf k) (windowOf k) (spaceOf k) x t i u odd ∙ rw (e, marked-zero (bytesOf k) (windowOf k) u, marked-zero (bytesOf k) (windowOf k) 0)
 
-  small : bytesOf k ≤ spaceOf k
-  small = let g : 3 ≤ bitsOf k = omega (arith, bytes-least k) in omega (arith, pow-mono g, bytes-most k)
+    small : bytesOf k ≤ spaceOf k
+    small = let g : 3 ≤ bitsOf k = omega (arith, bytes-least k) in omega (arith, pow-mono g, bytes-most k)
 
-  pub bitmap-empty : p ≡ Beyond → bits ≡ 0 → OpensAt k p x (Marks 0 0 Beyond)
-  bitmap-empty e z w s =
-      let q = subst (Stands k w) e s in
+    pub bitmap-empty : bits ≡ 0 → OpensAt k p x (Marks 0 0 Beyond)
+    bitmap-empty z w s =
+        let q = stands-past (omega arith) set s in
+        record {
+          in-space = omega (arith, small);
+          in-window = pow-pos (windowOf k);
+          v = q .0 + windowOf k * bytesOf k;
+          stands = past (q .0 + windowOf k * bytesOf k) refl (omega (arith, q .2)) refl;
+          is = λ t i. ap (readOf k (x ∷ t) i) (q .1) ∙ empty-read (q .0) t i z;
+        }
+
+  pub bitmap-at : {d r : ℕ} {q : Place} → r + bytesOf k ≡ spaceOf k → p ≤ r → bits < 2 ^ windowOf k → d ≡ windowOf k * bytesOf k → Stands k (from (p + d)) q → OpensAt k p x (Marks p bits q)
+  bitmap-at h g l f n w s =
+      let a : p + bytesOf k ≤ spaceOf k = omega arith in
       record {
-        in-space = omega (arith, small);
-        in-window = pow-pos (windowOf k);
-        v = q .0 + windowOf k * bytesOf k;
-        stands = (q .0 + windowOf k * bytesOf k, refl, omega (arith, q .2));
-        is = λ t i. ap (readOf k (x ∷ t) i) (q .1) ∙ empty-read (q .0) t i z;
-      }
-
-  pub bitmap-at : {u d : ℕ} {q : Place} → p ≡ At u → Placed k p → bits < 2 ^ windowOf k → d ≡ windowOf k * bytesOf k → Stands k (from (u + d)) q → OpensAt k p x (Marks u bits q)
-  bitmap-at {u} e g l f r w s =
-      let a = subst (Stands k w) e s in
-      record {
-        in-space = a .1;
+        in-space = a;
         in-window = l;
-        v = u + windowOf k * bytesOf k;
-        stands = rw f at r;
-        is = λ t i. ap (readOf k (x ∷ t) i) (a .0) ∙ odd-read (bytesOf k) (windowOf k) (spaceOf k) x t i u odd ∙ rw half;
+        v = p + windowOf k * bytesOf k;
+        stands = rw f at n;
+        is = λ t i. ap (readOf k (x ∷ t) i) (stands-within a s) ∙ odd-read (bytesOf k) (windowOf k) (spaceOf k) x t i p odd ∙ rw half;
       }
 
-pub bitmap-in : (k : Class) {p : Place} {u : ℕ} → p ≡ At u → Placed k p → u + bytesOf k ≤ spaceOf k
-bitmap-in k e g = subst (Placed k) e g
+pub bitmap-in : (k : Class) (p r : ℕ) → r + bytesOf k ≡ spaceOf k → p ≤ r → p + bytesOf k ≤ spaceOf k
+bitmap-in k p r h g = omega arith
 
 -- ---- either
 module _ (k : Class) (x : ℕ) where

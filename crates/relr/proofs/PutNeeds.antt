@@ -29,12 +29,12 @@ use Rattle.word.specs.Word.Laws.{store-sets, bytes-words-none, bytes-words-one,
 use Rattle.relr.specs.Words.{table, Legal}
 use Rattle.relr.specs.Table.{spaceOf, encode}
 use Rattle.relr.specs.Contract.{itself, WritesIn}
-use Rattle.relr.specs.declared.place.Place.the-variants.{Nowhere}
+use Rattle.relr.specs.Place.{Nowhere}
 use Rattle.relr.specs.declared.packer.Pending.{Pending}
 use Rattle.relr.specs.declared.packer.Packed.{Packed}
 use Rattle.relr.specs.declared.packer.Packed.the-variants.{Joined, Alone, Flushed, Both}
-use Rattle.relr.specs.Inner.{Placed, Packs, outOf, afterOf, endOf, wordsFor, tableBytes, checkedTable, Encodable, Room, Put}
-use Rattle.relr.proofs.WriteNeeds.{checked-legal, holding-placed, holding-small, Packing, packing-begin, packing-more, packing-end}
+use Rattle.relr.specs.Inner.{Packs, outOf, afterOf, endOf, wordsFor, tableBytes, checkedTable, Encodable, Room, Put}
+use Rattle.relr.proofs.WriteNeeds.{checked-legal, holding-small, Packing, packing-begin, packing-more, packing-end}
 
 -- ---- stores
 pub put-then : {old mid new a b : List ℕ} {at next past : ℕ} → Put old at a next mid → Put mid next b past new → Put old at (a ++ b) past new
@@ -134,9 +134,6 @@ module _ {k : Class} {l old : List ℕ} (f : Encodable k l old) {i at : ℕ} {p 
   pub putting-long : length now ≡ length old
   putting-long = buffer-long (bytesOfWords (bytesOf k) (g .out)) old at (g .held) (sym (g .place)) at-most
 
-  pub putting-placed : Placed k (p .place)
-  putting-placed = holding-placed k (g .packing .holding)
-
   pub putting-small : p .bits < 2 ^ 63
   putting-small = holding-small k (g .packing .holding)
 
@@ -206,7 +203,7 @@ module _ {k : Class} {l old : List ℕ} (f : Encodable k l old) {i at : ℕ} {p 
           let (a, b) = stored ((2 * p .bits + 1) ∷ []) room u in
           rw (last, ← a) b
 
-pub ruleset puttings = (putting-begin, putting-long, putting-kept, putting-double, putting-full, putting-placed, putting-small, putting-in, putting-room, putting-more, putting-done, putting-last, putting-end, needs)
+pub ruleset puttings = (putting-begin, putting-long, putting-kept, putting-double, putting-full, putting-small, putting-in, putting-room, putting-more, putting-done, putting-last, putting-end, needs)
 
 -- ---- a write as a whole
 module _ (k : Class) (l old : List ℕ) where

@@ -9,7 +9,8 @@ use lib.ListN.{length, length-append}
 use mir.Syntax.{w64}
 use mir.Val.{Fits}
 use borrow.Author.Needs.{needs}
-use borrow.Author.Tests.{eq-eqb, ne-eqb, lt-ltb, le-ltb}
+use borrow.Author.Tests.{lt-ltb, le-ltb, lt-leb, le-leb}
+use lib.Dec.{leb, ltb}
 use Rattle.answer.specs.declared.Refusal.{Refusal}
 use Rattle.answer.specs.declared.Refusal.the-variants.{Space, Outside}
 use Rattle.answer.specs.declared.Found.{Found}
@@ -23,49 +24,52 @@ use Rattle.word.specs.Class.Laws.{bytes-least, bytes-most}
 use Rattle.word.specs.Word.{wordAt}
 use Rattle.relr.specs.Words.{marked, fit}
 use Rattle.relr.specs.Table.{spaceOf, leading, within}
-use Rattle.relr.specs.declared.place.Place.{Place}
-use Rattle.relr.specs.declared.place.Place.the-variants.{Nowhere}
+use Rattle.relr.specs.Place.{Place, Nowhere}
 use Rattle.relr.specs.declared.place.Opened.{Opened}
-use Rattle.relr.specs.declared.place.Opened.the-variants.{Marks, Refused}
-use Rattle.relr.specs.Inner.{Placed, marksOf, OpensAt, Whole, wordsRead, below, grow, surveyed}
+use Rattle.relr.specs.declared.place.Opened.the-variants.{Address, Marks, Refused}
+use Rattle.relr.specs.Inner.{marksOf, OpensAt, Whole, wordsRead, below, grow, surveyed}
 use Rattle.relr.proofs.Steps.{marked-set}
-use Rattle.relr.proofs.Leading.{within-refused, inside-le, grow-is, survey-is}
-use Rattle.relr.proofs.Passed.{fit-append, fit-one, fit-not, Standing, standing-begin, standing-placed, standing-load, standing-end, Word, word-refused, word-marks, word-done, Marking, marking-begin, marking-less, marking-set, marking-clear, marking-dist, marking-end, marking-head}
+use Rattle.relr.proofs.Leading.{none, Leads, leads-begin, leads-more, leads-end, within-refused}
+use Rattle.relr.proofs.PlaceNeeds.{one-mark}
+use Rattle.relr.proofs.Passed.{fit-append, fit-one, fit-not, Standing, standing-begin, standing-load, standing-end, Word, word-refused, word-marks, word-one, word-done, Marking, marking-begin, marking-less, marking-set, marking-clear, marking-dist, marking-end, marking-head}
 
 -- ---- counting
-module _ (inside count x bound : ℕ) (h : inside ≤ count) where
-  pub grow-not : inside < count → inside ≡ grow inside count x bound
-  grow-not l = rw (ne-eqb inside count (λ z. absurd (omega arith)))
+module _ (first count x bound : ℕ) where
+  pub grow-not : x < bound → first ≡ grow first count x bound
+  grow-not l = rw (lt-leb bound x l)
 
-  pub grow-one : x < bound → count ≤ inside → inside + 1 ≡ grow inside count x bound
-  grow-one g l = let e : inside ≡ count = omega arith in rw (eq-eqb inside count e, lt-ltb x bound g)
+  pub grow-here : bound ≤ x → count < first → count ≡ grow first count x bound
+  grow-here g l = rw (le-leb bound x g, lt-ltb count first l)
 
-  pub grow-stop : bound ≤ x → count ≤ inside → inside ≡ grow inside count x bound
-  grow-stop g l = let e : inside ≡ count = omega arith in rw (eq-eqb inside count e, le-ltb x bound g)
+  pub grow-before : first ≤ count → first ≡ grow first count x bound
+  grow-before l = go (leb bound x)
+    where
+      go : (b : Bool) → first ≡ cond b (cond (ltb count first) count first) first
+      go true = rw (le-ltb count first l)
+      go false = refl
 
-module _ {inside count : ℕ} where
-  pub survey-all : inside ≡ count → Count count ≡ surveyed count inside
-  survey-all e = rw (eq-eqb inside count e)
+module _ {first count : ℕ} where
+  pub survey-all : count ≤ first → Count count ≡ surveyed count first
+  survey-all h = rw (le-ltb first count h)
 
-  pub survey-not : (inside ≡ count → ⊥) → found.Refused Outside inside ≡ surveyed count inside
-  survey-not h = rw (ne-eqb inside count h)
+  pub survey-not : first < count → found.Refused Outside first ≡ surveyed count first
+  survey-not h = rw (lt-ltb first count h)
 
-pub ruleset counting = (grow-not, grow-one, grow-stop, survey-all, survey-not, needs)
+pub ruleset counting = (grow-not, grow-here, grow-before, survey-all, survey-not, needs)
 
 -- ---- between two words
-pub record Scanned (k : Class) (s : List ℕ) (bound at : ℕ) (p : Place) (count inside : ℕ) : Type 0 where
+pub record Scanned (k : Class) (s : List ℕ) (bound at : ℕ) (p : Place) (count first : ℕ) : Type 0 where
   pub list : List ℕ
   pub standing : Standing k s list at p
   pub counted : count ≡ length list
-  pub lead : inside ≡ leading (below bound) list
+  pub lead : Leads bound first list
   pub few : count ≤ 64 * at
 
-pub scan-begin : {k : Class} {s : List ℕ} (bound : ℕ) → Whole k s → Scanned k s bound 0 Nowhere 0 0
-unfolding leading
-scan-begin {k} {s} bound h = record { list = []; standing = standing-begin k s h; counted = refl; lead = refl; few = omega arith }
+pub scan-begin : {k : Class} {s : List ℕ} (bound : ℕ) → Whole k s → Scanned k s bound 0 Nowhere 0 none
+scan-begin {k} {s} bound h = record { list = []; standing = standing-begin k s h; counted = refl; lead = leads-begin bound; few = omega arith }
 
--- ---- inside a word
-pub record Walking (k : Class) (s : List ℕ) (bound at count inside start set : ℕ) (next : Place) (bits d : ℕ) : Type 0 where
+-- ---- first a word
+pub record Walking (k : Class) (s : List ℕ) (bound at count first start set : ℕ) (next : Place) (bits d : ℕ) : Type 0 where
   pub list : List ℕ
   pub passed : List ℕ
   pub word : Word k s list at start set next
@@ -73,28 +77,52 @@ pub record Walking (k : Class) (s : List ℕ) (bound at count inside start set :
   pub marking : Marking k start set j bits d passed
   pub fits : fit (bytesOf k) (spaceOf k) passed ≡ true
   pub counted : count ≡ length (list ++ passed)
-  pub lead : inside ≡ leading (below bound) (list ++ passed)
+  pub lead : Leads bound first (list ++ passed)
   pub few : count ≤ 64 * at + j
 
-module _ {k : Class} {s : List ℕ} {bound at count inside : ℕ} {p : Place} (h : Scanned k s bound at p count inside) where
-  pub scan-placed : Placed k p
-  scan-placed = standing-placed (h .standing)
-
+module _ {k : Class} {s : List ℕ} {bound at count first : ℕ} {p : Place} (h : Scanned k s bound at p count first) where
   pub scan-load : at < length s → at + bytesOf k ≤ length s
   scan-load l = standing-load (h .standing) l
 
-  pub scan-end : {r : Found} → r ≡ surveyed count inside → length s ≤ at → r ≡ foundOf (within (below bound) (wordsRead k s))
-  scan-end e l = e ∙ survey-is bound count inside (h .list) (h .counted) (h .lead) (standing-end (h .standing) l)
+  -- the offsets passed are at most 64 for each word
+  long : Whole k s → at ≤ length s + 8
+  long w = go (h .standing .left) (h .standing .long)
+    where
+      go : (n : ℕ) → length s ≡ at + n * bytesOf k → at ≤ length s + 8
+      go n e = omega arith
+
+  scan-small : Whole k s → count < none
+  scan-small w = omega (arith, h .few, long w, w .few)
+
+  pub scan-end : Whole k s → {r : Found} → r ≡ surveyed count first → length s ≤ at → r ≡ foundOf (within (below bound) (wordsRead k s))
+  scan-end w e l = e ∙ leads-end (h .counted) (scan-small w) (h .lead) (standing-end (h .standing) l)
 
   module _ {x : ℕ} {r : Opened} (l : at < length s) (e : x ≡ wordAt (bytesOf k) s at) (o : OpensAt k p x r) where
     pub scan-refused : {why : Refusal} → r ≡ Refused why → found.Refused why at ≡ foundOf (within (below bound) (wordsRead k s))
     scan-refused f = sym (found-refused (within-refused (below bound) (word-refused (h .standing) l e o f)))
 
+    module _ {y : ℕ} {next : Place} (f : r ≡ Address y next) where
+      pub scan-count : Whole k s → Fits w64 (count + 1)
+      scan-count w = record { fits = omega (arith, scan-small w) }
+
+      pub scan-one : {c x′ : ℕ} → Whole k s → c ≡ bytesOf k → x′ ≡ grow first count y bound → Scanned k s bound (at + c) next (count + 1) x′
+      scan-one {c} w ce g =
+          let a = word-one (h .standing) l e o f in
+          let m = one-mark k y in
+          let st = word-done a (rw m (fit-one (bytesOf k) (spaceOf k) y (a .in-space))) in
+          record {
+            list = h .list ++ y ∷ [];
+            standing = rw (ce, ← m) st;
+            counted = omega (arith, h .counted, length-append (h .list) (y ∷ []));
+            lead = rw g (leads-more (h .counted) y (scan-small w) (h .lead));
+            few = omega (arith, h .few, bytes-least k);
+          }
+
     module _ {start set : ℕ} {next : Place} (f : r ≡ Marks start set next) where
       pub scan-reach : (last : ℕ) → last + bytesOf k ≡ spaceOf k → start ≤ last
       scan-reach last g = omega (arith, word-marks (h .standing) l e o f .in-space)
 
-      pub walk-begin : Walking k s bound at count inside start set next set 0
+      pub walk-begin : Walking k s bound at count first start set next set 0
       unfolding fit
       walk-begin =
           let w = word-marks (h .standing) l e o f in
@@ -110,10 +138,7 @@ module _ {k : Class} {s : List ℕ} {bound at count inside : ℕ} {p : Place} (h
             few = omega (arith, h .few);
           }
 
-module _ {k : Class} {s : List ℕ} {bound at count inside start set : ℕ} {next : Place} {bits d : ℕ} (h : Walking k s bound at count inside start set next bits d) where
-  pub walk-inside : inside ≤ count
-  walk-inside = inside-le bound count inside (h .list ++ h .passed) (h .counted) (h .lead)
-
+module _ {k : Class} {s : List ℕ} {bound at count first start set : ℕ} {next : Place} {bits d : ℕ} (h : Walking k s bound at count first start set next bits d) where
   -- the last offset of the space
   module _ (last : ℕ) (g : last + bytesOf k ≡ spaceOf k) where
     pub walk-offset : d ≤ last - start → start ≤ last → last < 2 ^ 64 → Fits w64 (start + d)
@@ -131,9 +156,9 @@ module _ {k : Class} {s : List ℕ} {bound at count inside start set : ℕ} {nex
           rw (e, fit-append (bytesOf k) (spaceOf k) (h .passed) ((start + d) ∷ q) (h .fits)) (fit-not (bytesOf k) (spaceOf k) (start + d) q a) in
           sym (found-refused (within-refused (below bound) (h .word .so ∙ rw f (after-refused (h .list) Space at))))
 
-      pub walk-set : {c x : ℕ} → c ≡ bytesOf k → d ≤ last - start → x ≡ grow inside count (start + d) bound → start ≤ last
+      pub walk-set : {c x : ℕ} → Whole k s → at < length s → c ≡ bytesOf k → d ≤ last - start → x ≡ grow first count (start + d) bound → start ≤ last
           → Walking k s bound at (count + 1) x start set next (bits / 2) (d + c)
-      walk-set {c} {x} ce l e m =
+      walk-set {c} {x} w lt ce l e m =
           let a : start + d + bytesOf k ≤ spaceOf k = omega arith in
           let b : (h .list ++ h .passed) ++ (start + d) ∷ [] ≡ h .list ++ (h .passed ++ (start + d) ∷ []) = append-assoc (h .list) (h .passed) ((start + d) ∷ []) in
           record {
@@ -144,12 +169,12 @@ module _ {k : Class} {s : List ℕ} {bound at count inside start set : ℕ} {nex
             marking = marking-set (h .marking) nz ce odd;
             fits = fit-append (bytesOf k) (spaceOf k) (h .passed) ((start + d) ∷ []) (h .fits) ∙ fit-one (bytesOf k) (spaceOf k) (start + d) a;
             counted = rw (← b) (omega (arith, h .counted, length-append (h .list ++ h .passed) ((start + d) ∷ [])));
-            lead = rw (← b) (e ∙ grow-is bound count inside (h .list ++ h .passed) (h .counted) (h .lead) (start + d));
+            lead = rw (← b, e) (leads-more (h .counted) (start + d) (omega (arith, h .few, marking-less (h .marking) nz, bytes-most k, w .few)) (h .lead));
             few = omega (arith, h .few);
           }
 
   module _ (nz : bits ≡ 0 → ⊥) where
-    pub walk-clear : {c : ℕ} → c ≡ bytesOf k → (bits % 2 ≡ 1 → ⊥) → Walking k s bound at count inside start set next (bits / 2) (d + c)
+    pub walk-clear : {c : ℕ} → c ≡ bytesOf k → (bits % 2 ≡ 1 → ⊥) → Walking k s bound at count first start set next (bits / 2) (d + c)
     walk-clear ce o =
         record {
           list = h .list;
@@ -172,7 +197,7 @@ module _ {k : Class} {s : List ℕ} {bound at count inside start set : ℕ} {nex
     pub walk-count : Whole k s → at < length s → Fits w64 (count + 1)
     walk-count w l = record { fits = omega (arith, h .few, marking-less (h .marking) nz, bytes-most k, w .few) }
 
-  pub walk-done : {c : ℕ} → c ≡ bytesOf k → bits ≡ 0 → Scanned k s bound (at + c) next count inside
+  pub walk-done : {c : ℕ} → c ≡ bytesOf k → bits ≡ 0 → Scanned k s bound (at + c) next count first
   walk-done ce z =
       let e = marking-end (h .marking) z in
       let st = word-done (h .word) (rw e (h .fits)) in
@@ -190,4 +215,4 @@ step-fits k s at c e h l = record { fits = omega arith }
 pub step-less : (k : Class) (s : List ℕ) (at c : ℕ) → c ≡ bytesOf k → at < length s → length s - (at + c) < length s - at
 step-less k s at c e h = omega (arith, bytes-least k)
 
-pub ruleset scans = (scan-begin, scan-placed, scan-load, scan-end, scan-refused, scan-reach, walk-begin, walk-inside, walk-offset, walk-far, walk-set, walk-clear, walk-dist, walk-small, walk-count, walk-done, step-fits, step-less, needs)
+pub ruleset scans = (scan-begin, scan-load, scan-end, scan-refused, scan-count, scan-one, scan-reach, walk-begin, walk-offset, walk-far, walk-set, walk-clear, walk-dist, walk-small, walk-count, walk-done, step-fits, step-less, needs)

@@ -7,9 +7,10 @@ use native.Mathlib.Omega.{arith}
 use Rattle.answer.specs.Outcome.{Outcome, accepted, refused, after}
 use Rattle.word.specs.declared.Class.the-variants.{Eight}
 use Rattle.relr.specs.Words.{Where, from, marked, fit, anchored, read}
-use Rattle.relr.specs.declared.place.Place.the-variants.{At}
+use Rattle.relr.specs.Place.{within}
 use Rattle.relr.specs.declared.place.Opened.the-variants.{Marks}
 use Rattle.relr.specs.Inner.{Marked, OpensAt, readOf}
+use Rattle.relr.proofs.PlaceNeeds.{stands-within}
 
 -- the first offset of an outcome, or 0
 first : Outcome (List ℕ) → ℕ
@@ -28,10 +29,10 @@ unfolding marked fit anchored read after first
 still = refl
 
 -- so a program that answers thus for the bits 0 does not meet the contract of `open_bitmap`
-pub where-grows : OpensAt Eight (At 0) 1 (Marks 0 0 (At 0)) → ⊥
+pub where-grows : OpensAt Eight 0 1 (Marks 0 0 0) → ⊥
 unfolding marked fit
 where-grows f =
-    let m : Marked Eight (from 0) 1 0 0 (At 0) = f (from 0) (refl, omega arith) in
+    let m : Marked Eight (from 0) 1 0 0 0 = f (from 0) (within refl (omega arith)) in
     let e : first (readOf Eight (1 ∷ 3 ∷ []) 0 (from 0)) ≡ first (after [] (readOf Eight (3 ∷ []) 8 (from 0))) =
-    ap first (m .is (3 ∷ []) 0) ∙ ap (λ (w : Where). first (after [] (readOf Eight (3 ∷ []) 8 w))) (m .stands .0) in
+    ap first (m .is (3 ∷ []) 0) ∙ ap (λ (w : Where). first (after [] (readOf Eight (3 ∷ []) 8 w))) (stands-within (omega arith) (m .stands)) in
     omega (arith, e, second, still)

@@ -33,16 +33,14 @@ use Rattle.word.specs.Word.Laws.{bytes-length, store-sets, bytes-words-one, byt
 use Rattle.relr.specs.Words.{Where, nowhere, from, word, write, table, Legal}
 use Rattle.relr.specs.Table.{spaceOf, checked, encode}
 use Rattle.relr.specs.Contract.{itself, WritesIn}
-use Rattle.relr.specs.declared.place.Place.{Place}
-use Rattle.relr.specs.declared.place.Place.the-variants.{Nowhere}
+use Rattle.relr.specs.Place.{Place, Nowhere, Stands, unset}
 use Rattle.relr.specs.declared.packer.Pending.{Pending}
 use Rattle.relr.specs.declared.packer.Packed.{Packed}
 use Rattle.relr.specs.declared.packer.Packed.the-variants.{Joined, Alone, Flushed, Both}
 use Rattle.relr.specs.declared.writer.Fault.{Fault}
 use Rattle.relr.specs.declared.writer.Fault.the-variants.{Clean, Bad}
-use Rattle.relr.specs.Inner.{Placed, Stands, wordsFor, Bits, Holding, Adds, Adding, Packs, outOf, afterOf, faultOf, endOf, tableBytes, checkedTable, Encodable, Room, Put}
+use Rattle.relr.specs.Inner.{wordsFor, Bits, Holding, Adds, Adding, Packs, outOf, afterOf, faultOf, endOf, tableBytes, checkedTable, Encodable, Room, Put}
 use Rattle.relr.proofs.Steps.{write-end, write-done}
-use Rattle.relr.proofs.Passed.{placed}
 use Rattle.relr.proofs.PackNeeds.{window-most}
 
 -- ---- a bad offset
@@ -127,9 +125,6 @@ pub ruleset faults = (fault-odd, fault-space, fault-order, fault-none, needs)
 
 -- ---- what is pending
 module _ (k : Class) {lo b : ℕ} {w : Where} {p : Place} (h : Holding k lo w p b) where
-  pub holding-placed : Placed k p
-  holding-placed = placed k w p (h .stands)
-
   pub holding-small : b < 2 ^ 63
   holding-small = go w (h .bits)
     where
@@ -174,7 +169,7 @@ pub record Packing (k : Class) (l out : List ℕ) (i lo : ℕ) (p : Pending) : T
   pub so : table (bytesOf k) (windowOf k) l ≡ out ++ wordsFor k w (p .bits) (drop i l)
 
 pub packing-begin : (k : Class) (l : List ℕ) → Packing k l [] 0 0 (record { place = Nowhere; bits = 0 })
-packing-begin k l = record { w = nowhere; holding = record { stands = refl; bits = refl }; so = refl }
+packing-begin k l = record { w = nowhere; holding = record { stands = unset refl refl; bits = refl }; so = refl }
 
 pub packing-more : {k : Class} {l out : List ℕ} {i lo : ℕ} {p : Pending} → Packing k l out i lo p → {x : ℕ} (r : Packed) → i < length l → x ≡ getD l i 0 → lo ≤ x → Packs k p x r
     → Packing k l (out ++ outOf x r) (i + 1) (x + 1) (afterOf r)
@@ -203,9 +198,6 @@ pub sizing-begin : (k : Class) (l : List ℕ) → Sizing k l 0 0 (record { place
 sizing-begin k l = record { out = []; packing = packing-begin k l; counted = refl; few = omega arith; clean = λ o. refl }
 
 module _ {k : Class} {l : List ℕ} {i least words : ℕ} {p : Pending} (h : Sizing k l i least p words) where
-  pub sizing-placed : Placed k (p .place)
-  sizing-placed = holding-placed k (h .packing .holding)
-
   pub sizing-small : p .bits < 2 ^ 63
   sizing-small = holding-small k (h .packing .holding)
 
@@ -267,4 +259,4 @@ module _ {k : Class} {l : List ℕ} {i least words : ℕ} {p : Pending} (h : Siz
         let m : words + c ≡ length (table (bytesOf k) (windowOf k) l) = omega (arith, h .counted, ap length t, length-append (h .out) (endOf (p .bits))) in
         sym (found-accepted (record { list = tableBytes k l; is = e; long = bytes-words-length (bytesOf k) (table (bytesOf k) (windowOf k) l) ∙ rw (m, be) }))
 
-pub ruleset sizings = (sizing-begin, sizing-placed, sizing-small, sizing-bad, sizing-in, sizing-next, sizing-add, sizing-more, sizing-sum, sizing-product, sizing-end, needs)
+pub ruleset sizings = (sizing-begin, sizing-small, sizing-bad, sizing-in, sizing-next, sizing-add, sizing-more, sizing-sum, sizing-product, sizing-end, needs)

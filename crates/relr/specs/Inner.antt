@@ -4,7 +4,7 @@ use mathlib.Core.Bool.{Bool, true, false, cond}
 use mathlib.Core.List.{List, [], _∷_, _++_}
 use mathlib.Core.Path.{_≡_}
 use Prim.Native.Nat.{ℕ, suc, _+_, _-_, _*_, _^_, _%_, _/_, _≤_, _<_}
-use lib.Dec.{ltb, eqb}
+use lib.Dec.{leb, ltb, eqb}
 use lib.ListN.{length, drop}
 use lib.Seq.{sets}
 use Rattle.answer.specs.declared.Refusal.the-variants.{Order, Space, Odd, Outside}
@@ -28,22 +28,9 @@ use Rattle.relr.specs.declared.cursor.Step.the-variants.{Offset, End}
 use Rattle.relr.specs.declared.writer.Fault.{Fault}
 use Rattle.relr.specs.declared.writer.Fault.the-variants.{Clean, Bad}
 use Rattle.relr.specs.Table.{spaceOf, checked, patched}
-use Rattle.relr.specs.declared.place.Place.{Place}
-use Rattle.relr.specs.declared.place.Place.the-variants.{Nowhere, At, Beyond}
+use Rattle.relr.specs.Place.{Place, Stands}
 use Rattle.relr.specs.declared.place.Opened.{Opened}
-use Rattle.relr.specs.declared.place.Opened.the-variants.{Marks, Refused}
-
--- a place at an offset is one of the space
-abbrev pub Placed : Class → Place → Type 0
-Placed k Nowhere = Unit {0}
-Placed k (At u) = u + bytesOf k ≤ spaceOf k
-Placed k Beyond = Unit {0}
-
--- a place stands for *where*: beyond the last word it does not say how far
-abbrev pub Stands : Class → Where → Place → Type 0
-Stands k w Nowhere = w ≡ nowhere
-Stands k w (At u) = (w ≡ from u) × (u + bytesOf k ≤ spaceOf k)
-Stands k w Beyond = (v : ℕ) × (w ≡ from v) × (spaceOf k < v + bytesOf k)
+use Rattle.relr.specs.declared.place.Opened.the-variants.{Address, Marks, Refused}
 
 -- the offsets of the words t, of which the first stands at byte i
 abbrev pub readOf : Class → List ℕ → ℕ → Where → Outcome (List ℕ)
@@ -65,6 +52,7 @@ pub record Marked (k : Class) (w : Where) (x start bits : ℕ) (next : Place) : 
 
 -- what the word x is at *where* w
 abbrev pub Opens : Class → Where → ℕ → Opened → Type 0
+Opens k w x (Address y next) = Marked k w x y 1 next
 Opens k w x (Marks start bits next) = Marked k w x start bits next
 Opens k w x (Refused why) = (t : List ℕ) (i : ℕ) → readOf k (x ∷ t) i w ≡ refused why i
 
@@ -85,13 +73,13 @@ wordsRead k s = readOf k (wordsOf (bytesOf k) s) 0 nowhere
 abbrev pub below : ℕ → ℕ → Bool
 below bound x = ltb x bound
 
--- of `count` offsets the first `inside` are below the bound, and then comes x
+-- the index of the first of `count` offsets that is not below the bound, or one that is no less, and then comes x
 abbrev pub grow : ℕ → ℕ → ℕ → ℕ → ℕ
-grow inside count x bound = cond (eqb inside count) (cond (ltb x bound) (inside + 1) inside) inside
+grow first count x bound = cond (leb bound x) (cond (ltb count first) count first) first
 
--- all of `count` offsets are below the bound, or the first `inside` only
+-- all of `count` offsets are below the bound, or the first that is not
 abbrev pub surveyed : ℕ → ℕ → Found
-surveyed count inside = cond (eqb inside count) (Count count) (found.Refused Outside inside)
+surveyed count first = cond (ltb first count) (found.Refused Outside first) (Count count)
 
 -- ---- the second passes
 

@@ -2,3 +2,4 @@ pub mod Words
 pub mod Table
 pub mod Contract
 pub mod Inner
+pub mod Place

@@ -10,7 +10,6 @@ ghost use Rattle.relr.specs.Contract.{AppliesIn};
 ghost use Rattle.relr.specs.Inner.{marksOf, Patchable, Targeted, Patched, above};
 use crate::place;
 use crate::place::Opened;
-use crate::place::Place;
 use crate::walk;
 use answer::Answer;
 use answer::Found;
@@ -49,12 +48,17 @@ fn patch(k: Class, s: &[u8], base: u64, image: &mut [u8])
 {
     let c = k.bytes() as usize;
     let mut at: usize = 0;
-    let mut place = Place::Nowhere;
+    let mut place = place::NOWHERE;
     while at < s.len() {
         let opened = place::open(k, place, word::load(k, s, at));
         match opened {
             Opened::Refused(_) => {
                 return;
+            }
+            Opened::Address(x, next) => {
+                add_at(k, &mut *image, x as usize, base);
+                place = next;
+                at += c;
             }
             Opened::Marks(start, set, next) => {
                 patch_marks(k, &mut *image, base, start, set);

@@ -2,14 +2,13 @@
 ghost use Rattle.relr.specs.Inner.{Running, Steps, Starts};
 use crate::place;
 use crate::place::Opened;
-use crate::place::Place;
 use word::Class;
 
 // The next word's place and *where* it begins, and the bits that are left of the word before it: the lowest stands for `start` plus
 // `distance`.
 pub struct Cursor {
     pub at: usize,
-    pub place: Place,
+    pub place: u64,
     pub start: u64,
     pub distance: u64,
     pub bits: u64,
@@ -28,7 +27,7 @@ impl Cursor {
     {
         Cursor {
             at: 0,
-            place: Place::Nowhere,
+            place: place::NOWHERE,
             start: 0,
             distance: 0,
             bits: 0,
@@ -58,6 +57,13 @@ impl Cursor {
                     Opened::Refused(_) => {
                         return Step::End;
                     }
+                    Opened::Address(first, next) => {
+                        start = first;
+                        distance = 0;
+                        bits = 1;
+                        place = next;
+                        at += c as usize;
+                    }
                     Opened::Marks(first, set, next) => {
                         start = first;
                         distance = 0;
@@ -68,14 +74,17 @@ impl Cursor {
                 }
             }
         }
+        let offset = start + distance;
+        distance += c as u64;
+        bits = bits / 2;
         Step::Offset(
-            start + distance,
+            offset,
             Cursor {
                 at,
                 place,
                 start,
-                distance: distance + c as u64,
-                bits: bits / 2,
+                distance,
+                bits,
             },
         )
     }

@@ -4,15 +4,13 @@ ghost use Prim.Native.Nat.{ℕ, _+_, _*_, _/_, _%_, _^_, _≤_, _<_};
 ghost use lib.ListN.{length};
 ghost use Rattle.word.specs.Class.{bytesOf, windowOf};
 ghost use Rattle.relr.specs.Table.{spaceOf};
-ghost use Rattle.relr.specs.declared.place.Place.the-variants.{At};
-ghost use Rattle.relr.specs.Inner.{Placed, LocatedAt, Small, ForwardFrom, Flushes, Packs, outOf, afterOf};
+ghost use Rattle.relr.specs.Inner.{LocatedAt, Small, ForwardFrom, Flushes, Packs, outOf, afterOf};
 use crate::place;
-use crate::place::Place;
 use word::Class;
 
 // Where the next bitmap starts, and the bits of the one that is pending there; with no bits none is.
 pub struct Pending {
-    pub place: Place,
+    pub place: u64,
     pub bits: u64,
 }
 
@@ -38,14 +36,15 @@ fn bit(j: u64) -> u64
     1u64 << j
 }
 
-fn locate_from(k: Class, v: u64, x: u64) -> Location
+// Where x falls in the bitmap that starts at a place. Nowhere and beyond are past every offset.
+fn locate(k: Class, place: u64, x: u64) -> Location
     requires { ⌜ x + bytesOf k ≤ spaceOf k ⌝ }
-    ensures { λ r. ⌜ LocatedAt k (At v) x r × Small r ⌝ }
+    ensures { λ r. ⌜ LocatedAt k place x r × Small r ⌝ }
 {
-    if x < v {
+    if x < place {
         return Location::Off;
     }
-    let d = x - v;
+    let d = x - place;
     if 0 < place::rest(k, d) {
         return Location::Off;
     }
@@ -56,33 +55,19 @@ fn locate_from(k: Class, v: u64, x: u64) -> Location
     Location::Off
 }
 
-// Where x falls in the bitmap that starts at a place.
-fn locate(k: Class, place: Place, x: u64) -> Location
-    requires { ⌜ x + bytesOf k ≤ spaceOf k ⌝ }
-    ensures { λ r. ⌜ LocatedAt k place x r × Small r ⌝ }
-{
-    match place {
-        Place::Nowhere => Location::Off,
-        Place::Beyond => Location::Off,
-        Place::At(v) => locate_from(k, v, x),
-    }
-}
-
 // Where the bitmap after the one at a place starts.
-fn forward(k: Class, place: Place) -> Place
-    requires { ⌜ Placed k place ⌝ }
+fn forward(k: Class, place: u64) -> u64
     ensures { λ r. ⌜ ForwardFrom k place r ⌝ }
 {
-    match place {
-        Place::Nowhere => Place::Beyond,
-        Place::Beyond => Place::Beyond,
-        Place::At(u) => place::past(k, u, place::stride(k)),
+    if place <= place::last(k) {
+        return place::past(k, place, place::stride(k));
     }
+    place::BEYOND
 }
 
 // The pending bitmap does not take x, so it is written.
 fn flush(k: Class, p: Pending, x: u64) -> Packed
-    requires { ⌜ (p .bits < 2 ^ 63) × Placed k (p .place) × (x + bytesOf k ≤ spaceOf k) ⌝ }
+    requires { ⌜ (p .bits < 2 ^ 63) × (x + bytesOf k ≤ spaceOf k) ⌝ }
     ensures { λ r. ⌜ Flushes k p x r ⌝ }
 {
     let place = p.place;
@@ -109,7 +94,7 @@ fn flush(k: Class, p: Pending, x: u64) -> Packed
 
 // One more offset, above all before it.
 pub fn pack(k: Class, p: Pending, x: u64) -> Packed
-    requires { ⌜ (p .bits < 2 ^ 63) × Placed k (p .place) × (x + bytesOf k ≤ spaceOf k) ⌝ }
+    requires { ⌜ (p .bits < 2 ^ 63) × (x + bytesOf k ≤ spaceOf k) ⌝ }
     ensures { λ r. ⌜ Packs k p x r ⌝ }
 {
     let place = p.place;

@@ -4,20 +4,22 @@ ghost use Prim.Native.Nat.{ℕ, _+_, _*_, _/_, _%_, _^_, _≤_, _<_};
 ghost use Rattle.word.specs.Class.{bytesOf, windowOf};
 ghost use Rattle.relr.specs.Table.{spaceOf};
 ghost use Rattle.relr.specs.Words.{Where, from};
-ghost use Rattle.relr.specs.Inner.{Placed, Stands, Opens, OpensAt};
+ghost use Rattle.relr.specs.Place.{Stands};
+ghost use Rattle.relr.specs.Inner.{Opens, OpensAt};
 use answer::Refusal;
 use word::Class;
 
-// Where the next bitmap's first location is: nowhere yet, at an offset of the space, or beyond all of them.
-pub enum Place {
-    Nowhere,
-    At(u64),
-    Beyond,
-}
+// Where the next bitmap's first location is: an offset of the space, or one of these two numbers, nowhere yet and beyond all offsets.
+// (A number stays in a register, where an enum would go through memory at each word.)
+pub const NOWHERE: u64 = 18446744073709551614;
 
-// What a word stands for: the locations that the bits mark from an offset on, a word apart, and where the next bitmap's first is.
+pub const BEYOND: u64 = 18446744073709551615;
+
+// What a word stands for: an offset, or the locations that the bits mark from an offset on, a word apart; and where the next bitmap's
+// first is.
 pub enum Opened {
-    Marks(u64, u64, Place),
+    Address(u64, u64),
+    Marks(u64, u64, u64),
     Refused(Refusal),
 }
 
@@ -32,14 +34,14 @@ pub fn last(k: Class) -> u64
 }
 
 // The place d bytes past u.
-pub fn past(k: Class, u: u64, d: u64) -> Place
+pub fn past(k: Class, u: u64, d: u64) -> u64
     requires { ⌜ u + bytesOf k ≤ spaceOf k ⌝ }
     ensures { λ r. ⌜ Stands k (from (u + d)) r ⌝ }
 {
     if last(k) - u < d {
-        return Place::Beyond;
+        return BEYOND;
     }
-    Place::At(u + d)
+    u + d
 }
 
 // The bytes from one bitmap's first location to the next one's.
@@ -79,29 +81,29 @@ fn open_address(k: Class, x: u64) -> Opened
     if last(k) < x {
         return Opened::Refused(Refusal::Space);
     }
-    Opened::Marks(x, 1, past(k, x, k.bytes() as u64))
+    Opened::Address(x, past(k, x, k.bytes() as u64))
 }
 
 // An odd word is a bitmap of the bits above its lowest.
-fn open_bitmap(k: Class, place: Place, bits: u64) -> Opened
-    requires { ⌜ (bits < 2 ^ windowOf k) × Placed k place ⌝ }
+fn open_bitmap(k: Class, place: u64, bits: u64) -> Opened
+    requires { ⌜ bits < 2 ^ windowOf k ⌝ }
     ensures { λ r. ⌜ ((x : ℕ) → x % 2 ≡ 1 → x / 2 ≡ bits → OpensAt k place x r) ⌝ }
 {
-    match place {
-        Place::Nowhere => Opened::Refused(Refusal::Order),
-        Place::At(u) => Opened::Marks(u, bits, past(k, u, stride(k))),
-        Place::Beyond => {
-            if bits != 0 {
-                return Opened::Refused(Refusal::Space);
-            }
-            Opened::Marks(0, 0, Place::Beyond)
-        }
+    if place <= last(k) {
+        return Opened::Marks(place, bits, past(k, place, stride(k)));
     }
+    if place == NOWHERE {
+        return Opened::Refused(Refusal::Order);
+    }
+    if bits != 0 {
+        return Opened::Refused(Refusal::Space);
+    }
+    Opened::Marks(0, 0, BEYOND)
 }
 
 // What the word x stands for at a place.
-pub fn open(k: Class, place: Place, x: u64) -> Opened
-    requires { ⌜ (x < spaceOf k) × Placed k place ⌝ }
+pub fn open(k: Class, place: u64, x: u64) -> Opened
+    requires { ⌜ x < spaceOf k ⌝ }
     ensures { λ r. ⌜ OpensAt k place x r ⌝ }
 {
     if x % 2 == 0 {

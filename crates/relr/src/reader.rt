@@ -8,7 +8,6 @@ ghost use Rattle.relr.specs.Contract.{ReadsIn};
 ghost use Rattle.relr.specs.Inner.{marksOf, Markable, Put, Fillable, Filled};
 use crate::place;
 use crate::place::Opened;
-use crate::place::Place;
 use crate::walk;
 use answer::Answer;
 use answer::Found;
@@ -40,13 +39,19 @@ fn fill(k: Class, s: &[u8], column: &mut [u64])
 {
     let c = k.bytes() as usize;
     let mut at: usize = 0;
-    let mut place = Place::Nowhere;
+    let mut place = place::NOWHERE;
     let mut i: usize = 0;
     while at < s.len() {
         let opened = place::open(k, place, word::load(k, s, at));
         match opened {
             Opened::Refused(_) => {
                 return;
+            }
+            Opened::Address(x, next) => {
+                column[i] = x;
+                i += 1;
+                place = next;
+                at += c;
             }
             Opened::Marks(start, set, next) => {
                 i = fill_marks(k, &mut *column, i, start, set);

@@ -8,33 +8,33 @@ ghost use Rattle.relr.specs.Table.{decode, within};
 ghost use Rattle.relr.specs.Inner.{Whole, below, wordsRead, grow, surveyed};
 use crate::place;
 use crate::place::Opened;
-use crate::place::Place;
 use answer::Found;
 use answer::Refusal;
 use word::Class;
 
-// How many offsets from the front on are below a bound, where x comes after `count` others, of which `inside` are.
-fn grown(inside: u64, count: u64, x: u64, bound: u64) -> u64
-    requires { ⌜ (inside ≤ count) × (count < 2 ^ 63) ⌝ }
-    ensures { λ r. ⌜ r ≡ grow inside count x bound ⌝ }
+// The index of the first offset that is not below a bound, while there is none.
+const NONE: u64 = 18446744073709551615;
+
+// That index, where x comes after `count` others.
+fn grown(first: u64, count: u64, x: u64, bound: u64) -> u64
+    ensures { λ r. ⌜ r ≡ grow first count x bound ⌝ }
 {
-    if inside < count {
-        return inside;
+    if bound <= x {
+        if count < first {
+            return count;
+        }
     }
-    if x < bound {
-        return inside + 1;
-    }
-    inside
+    first
 }
 
 // All offsets are below the bound, or the first that is not.
-fn survey(count: u64, inside: u64) -> Found
-    ensures { λ r. ⌜ r ≡ surveyed count inside ⌝ }
+fn survey(count: u64, first: u64) -> Found
+    ensures { λ r. ⌜ r ≡ surveyed count first ⌝ }
 {
-    if inside == count {
-        return Found::Count(count);
+    if first < count {
+        return Found::Refused(Refusal::Outside, first);
     }
-    Found::Refused(Refusal::Outside, inside)
+    Found::Count(count)
 }
 
 // The walk over words and set bits, left at the first fault. Of a table that has none, each offset is held against a bound.
@@ -44,17 +44,23 @@ pub fn scan(k: Class, s: &[u8], bound: u64) -> Found
 {
     let c = k.bytes() as usize;
     let mut at: usize = 0;
-    let mut place = Place::Nowhere;
+    let mut place = place::NOWHERE;
     let mut count: u64 = 0;
-    let mut inside: u64 = 0;
+    let mut first = NONE;
     'walk: loop {
         if s.len() <= at {
-            break 'walk survey(count, inside);
+            break 'walk survey(count, first);
         }
         let opened = place::open(k, place, word::load(k, s, at));
         match opened {
             Opened::Refused(why) => {
                 break 'walk Found::Refused(why, at as u64);
+            }
+            Opened::Address(x, next) => {
+                first = grown(first, count, x, bound);
+                count += 1;
+                place = next;
+                at += c;
             }
             Opened::Marks(start, set, next) => {
                 let reach = place::last(k) - start;
@@ -65,7 +71,7 @@ pub fn scan(k: Class, s: &[u8], bound: u64) -> Found
                         if reach < d {
                             break 'walk Found::Refused(Refusal::Space, at as u64);
                         }
-                        inside = grown(inside, count, start + d, bound);
+                        first = grown(first, count, start + d, bound);
                         count += 1;
                     }
                     bits = bits / 2;
@@ -88,5 +94,8 @@ pub fn find(k: Class, s: &[u8], bound: u64) -> Found
     if 0 < place::rest(k, s.len() as u64) {
         return Found::Refused(Refusal::Missing, s.len() as u64);
     }
-    scan(k, s, bound)
+    match k {
+        Class::Four => scan(Class::Four, s, bound),
+        Class::Eight => scan(Class::Eight, s, bound),
+    }
 }

@@ -12,7 +12,6 @@ use crate::packer;
 use crate::packer::Packed;
 use crate::packer::Pending;
 use crate::place;
-use crate::place::Place;
 use answer::Answer;
 use answer::Found;
 use answer::Refusal;
@@ -58,7 +57,7 @@ fn size(k: Class, offsets: &[u64]) -> Found
     let mut i: usize = 0;
     let mut least: u64 = 0;
     let mut pending = Pending {
-        place: Place::Nowhere,
+        place: place::NOWHERE,
         bits: 0,
     };
     let mut words: u64 = 0;
@@ -79,7 +78,9 @@ fn size(k: Class, offsets: &[u64]) -> Found
         }
     }
     let total = words + waiting(pending);
-    Found::Count(total * (k.bytes() as u64))
+    let c = k.bytes() as u64;
+    let need = total * c;
+    Found::Count(need)
 }
 
 // Stores a word at a place, and returns the place after it.
@@ -115,7 +116,7 @@ fn put(k: Class, offsets: &[u64], table: &mut [u8])
     let n = offsets.len();
     let mut i: usize = 0;
     let mut pending = Pending {
-        place: Place::Nowhere,
+        place: place::NOWHERE,
         bits: 0,
     };
     let mut at: usize = 0;

@@ -1,6 +1,6 @@
-use Rattle.relr.proofs.FillNeeds.{Reading, readings}
 use lib.ListN.{length}
 use Prim.Native.Nat.{_-_}
+use Rattle.relr.proofs.FillNeeds.{Reading, readings}
 use Rattle.relr.proofs.reader.fill.Statement.{statement}
 use Rattle.relr.proofs.reader.fill.Tie as tie
 use Rattle.relr.proofs.reader.fill.Reads as reads
@@ -16,63 +16,91 @@ Inv-loop k s column₀ c at₀ place₀ i₀ column at place i = Reading k s col
 abbrev μ-loop : tie.MeasureT-loop
 μ-loop k s column₀ c at₀ place₀ i₀ column at place i = length s - at
 
--- src/reader.rt:41:13
+-- src/reader.rt:40:13
 bytes-requires : tie.Need-bytes-requires Inv-loop μ-loop
 bytes-requires c κs = search readings
 
--- src/reader.rt:41:13
+-- src/reader.rt:40:13
 cast-c : tie.Need-cast-c Inv-loop μ-loop
 cast-c c = search readings
 
--- src/reader.rt:45:5
+-- src/reader.rt:44:5
 loop-holds : tie.Need-loop-holds Inv-loop μ-loop
 loop-holds c = search readings
 
--- src/reader.rt:46:44
+-- src/reader.rt:45:44
 load-requires : tie.Need-load-requires Inv-loop μ-loop
 load-requires c κs = search readings
 
--- src/reader.rt:46:13
+-- src/reader.rt:45:13
 open-requires : tie.Need-open-requires Inv-loop μ-loop
 open-requires c κs = search readings
 
--- src/reader.rt:49:17
+-- src/reader.rt:48:17
 enum-told : tie.Need-enum-told Inv-loop μ-loop
 enum-told c = search readings
 
--- src/reader.rt:49:17
+-- src/reader.rt:48:17
 same-length : tie.Need-same-length Inv-loop μ-loop
 same-length c = search readings
 
--- src/reader.rt:49:17
+-- src/reader.rt:48:17
 returns : tie.Need-returns Inv-loop μ-loop
 returns c = search readings
 
--- src/reader.rt:51:27
+-- src/reader.rt:50:29
 enum-known-opened : tie.Need-enum-known-opened Inv-loop μ-loop
 enum-known-opened c = search readings
 
+-- src/reader.rt:51:17
+mul-column : tie.Need-mul-column Inv-loop μ-loop
+mul-column c = search readings
+
+-- src/reader.rt:51:17
+slice-write-column : tie.Need-slice-write-column Inv-loop μ-loop
+slice-write-column c = search readings
+
 -- src/reader.rt:52:17
-fill-marks-requires : tie.Need-fill-marks-requires Inv-loop μ-loop
-fill-marks-requires c κs = search readings
+add-i : tie.Need-add-i Inv-loop μ-loop
+add-i c = search readings
 
 -- src/reader.rt:54:17
 add-at : tie.Need-add-at Inv-loop μ-loop
 add-at c = search readings
 
--- src/reader.rt:45:5
+-- src/reader.rt:44:5
 loop-less : tie.Need-loop-less Inv-loop μ-loop
 loop-less c = search readings
 
--- src/reader.rt:45:5
+-- src/reader.rt:44:5
 loop-again : tie.Need-loop-again Inv-loop μ-loop
 loop-again c = search readings
 
--- src/reader.rt:37:1
+-- src/reader.rt:56:27
+enum-known-opened-2 : tie.Need-enum-known-opened-2 Inv-loop μ-loop
+enum-known-opened-2 c = search readings
+
+-- src/reader.rt:57:17
+fill-marks-requires : tie.Need-fill-marks-requires Inv-loop μ-loop
+fill-marks-requires c κs = search readings
+
+-- src/reader.rt:59:17
+add-at-2 : tie.Need-add-at-2 Inv-loop μ-loop
+add-at-2 c = search readings
+
+-- src/reader.rt:44:5
+loop-less-2 : tie.Need-loop-less-2 Inv-loop μ-loop
+loop-less-2 c = search readings
+
+-- src/reader.rt:44:5
+loop-again-2 : tie.Need-loop-again-2 Inv-loop μ-loop
+loop-again-2 c = search readings
+
+-- src/reader.rt:36:1
 same-length-2 : tie.Need-same-length-2 Inv-loop μ-loop
 same-length-2 c = search readings
 
--- src/reader.rt:37:1
+-- src/reader.rt:36:1
 returns-2 : tie.Need-returns-2 Inv-loop μ-loop
 returns-2 c = search readings
 
@@ -91,9 +119,16 @@ fill-spec =
     same-length
     returns
     enum-known-opened
-    fill-marks-requires
+    mul-column
+    slice-write-column
+    add-i
     add-at
     loop-less
     loop-again
+    enum-known-opened-2
+    fill-marks-requires
+    add-at-2
+    loop-less-2
+    loop-again-2
     same-length-2
     returns-2)

@@ -1,5 +1,4 @@
 use Rattle.relr.proofs.Decoding.{finding, find-part}
-use borrow.Author.Needs.{needs}
 use Rattle.relr.proofs.walk.find.Statement.{statement}
 use Rattle.relr.proofs.walk.find.Tie as tie
 use Rattle.relr.proofs.walk.find.Reads as reads
@@ -7,25 +6,52 @@ use Rattle.relr.proofs.walk.find.Lts as lts
 use Rattle.relr.proofs.place.rest.Reads as rest-reads
 use Rattle.relr.proofs.walk.scan.Reads as scan-reads
 
--- src/walk.rt:86:9
+-- src/walk.rt:92:9
 returns : tie.Need-returns
 returns c = search finding
 
--- src/walk.rt:88:12
+-- src/walk.rt:94:12
 rest-requires : tie.Need-rest-requires
-rest-requires c κs = search needs
+rest-requires c κs = search finding
 
--- src/walk.rt:89:9
+-- src/walk.rt:95:9
 returns-2 : tie.Need-returns-2
 returns-2 c = find-part _ _ _ (c .before .rest .ensures) (c .if2 .taken) (c .before .before .if1 .left)
 
--- src/walk.rt:91:5
-scan-requires : tie.Need-scan-requires
-scan-requires c κs = search needs
+-- src/walk.rt:98:29
+enum-told : tie.Need-enum-told
+enum-told c = search finding
 
--- src/walk.rt:82:1
+-- src/walk.rt:98:24
+scan-requires : tie.Need-scan-requires
+scan-requires c κs = search finding
+
+-- src/walk.rt:99:30
+enum-told-2 : tie.Need-enum-told-2
+enum-told-2 c = search finding
+
+-- src/walk.rt:99:25
+scan-requires-2 : tie.Need-scan-requires-2
+scan-requires-2 c κs = search finding
+
+-- src/walk.rt:88:1
 returns-3 : tie.Need-returns-3
 returns-3 c = search finding
 
+-- src/walk.rt:88:1
+returns-4 : tie.Need-returns-4
+returns-4 c = search finding
+
 pub find-spec : {M : Type 1} → statement M
-find-spec = tie.close (tie.spec returns rest-requires returns-2 scan-requires returns-3)
+find-spec =
+    tie.close
+    (tie.spec
+    returns
+    rest-requires
+    returns-2
+    enum-told
+    scan-requires
+    enum-told-2
+    scan-requires-2
+    returns-3
+    returns-4)

@@ -4,21 +4,17 @@ use Rattle.relr.proofs.walk.grown.Tie as tie
 use Rattle.relr.proofs.walk.grown.Reads as reads
 use Rattle.relr.proofs.walk.grown.Lts as lts
 
--- src/read.rt:22:9
+-- src/walk.rt:24:13
 returns : tie.Need-returns
 returns c = search counting
 
--- src/read.rt:25:16
-add-result : tie.Need-add-result
-add-result c = search counting
-
--- src/read.rt:25:9
+-- src/walk.rt:19:1
 returns-2 : tie.Need-returns-2
 returns-2 c = search counting
 
--- src/read.rt:17:1
+-- src/walk.rt:19:1
 returns-3 : tie.Need-returns-3
 returns-3 c = search counting
 
 pub grown-spec : {M : Type 1} → statement M
-grown-spec = tie.close (tie.spec returns add-result returns-2 returns-3)
+grown-spec = tie.close (tie.spec returns returns-2 returns-3)

@@ -91,12 +91,12 @@ bytes-requires : tie.Need-bytes-requires Inv-loop μ-loop
 bytes-requires c κs = search sizings
 
 -- src/writer.rt:82:27
-cast-t20 : tie.Need-cast-t20 Inv-loop μ-loop
-cast-t20 c = search sizings
+cast-c : tie.Need-cast-c Inv-loop μ-loop
+cast-c c = search sizings
 
 -- src/writer.rt:82:18
-mul-t22 : tie.Need-mul-t22 Inv-loop μ-loop
-mul-t22 c = search sizings
+mul-need : tie.Need-mul-need Inv-loop μ-loop
+mul-need c = search sizings
 
 -- src/writer.rt:53:1
 returns-2 : tie.Need-returns-2 Inv-loop μ-loop
@@ -126,6 +126,6 @@ size-spec =
     waiting-requires
     add-total
     bytes-requires
-    cast-t20
-    mul-t22
+    cast-c
+    mul-need
     returns-2)
