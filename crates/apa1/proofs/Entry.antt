@@ -25,7 +25,7 @@ use Rattle.apa1.specs.declared.reader.Entry.{Entry}
 use Rattle.apa1.specs.declared.reader.Entry.the-variants.{Record, Refused}
 use Rattle.apa1.specs.Table.{Row, row, identifier, stepAt, headAt}
 use Rattle.apa1.specs.Table.Laws.{step-not, step-not-2, step-is, head-other, head-not, head-is, count-negative, count-other}
-use Rattle.apa1.specs.Contract.{entryStep, entryWithout, headWithout}
+use Rattle.apa1.specs.Inner.{entryStep, entryWithout, headWithout}
 
 -- ---- a number that is refused
 module _ {r : Signed} where

@@ -26,7 +26,8 @@ use Rattle.apa1.specs.declared.reader.Entry.{Entry}
 use Rattle.apa1.specs.declared.reader.Entry.the-variants.{Record, Refused}
 use Rattle.apa1.specs.Table.{Row, row, start, stepAt, headAt, decode}
 use Rattle.apa1.specs.Table.Laws.{decode-is}
-use Rattle.apa1.specs.Contract.{offsetOf, addendOf, entryStep, Fillable, Filled}
+use Rattle.apa1.specs.Contract.{offsetOf, addendOf, Filled}
+use Rattle.apa1.specs.Inner.{entryStep, Fillable}
 
 -- the records of a table that has so many from a place on
 abbrev pub body : List ℕ → ℕ → ℕ → Outcome (List Row)

@@ -18,7 +18,8 @@ use Rattle.records.specs.Writing.{puts, Puts}
 use Rattle.records.proofs.Writing.{Sized, sized-none, sized-more, sized-end, Putting, putting-none, putting-same, putting-room, putting-more, putting-end, head-room, body-room, both-written}
 use Rattle.apa1.specs.Table.{Row, row, start, rows, entryBytes, bytesOf, behind, headOf, encode}
 use Rattle.apa1.specs.Table.Laws.{rows-length, rows-from, encode-is, entry-most, head-most}
-use Rattle.apa1.specs.Contract.{Listed, Takes, Puttable}
+use Rattle.apa1.specs.Contract.{Listed}
+use Rattle.apa1.specs.Inner.{Takes, Puttable}
 
 abbrev Bits : ℤ → ℤ
 Bits z = toZ w64 (ofZ w64 z)

@@ -5,7 +5,8 @@ ghost use lib.ListN.{length};
 ghost use Rattle.leb128.specs.Number.{Written};
 ghost use Rattle.records.specs.Writing.{puts, Puts};
 ghost use Rattle.apa1.specs.Table.{row, start, rows, entryBytes, bytesOf, behind, headOf, encode};
-ghost use Rattle.apa1.specs.Contract.{Listed, Takes, Puttable};
+ghost use Rattle.apa1.specs.Contract.{Listed};
+ghost use Rattle.apa1.specs.Inner.{Takes, Puttable};
 
 // The bytes of a record, after one with this offset and this addend.
 fn entry_len(offset: u64, addend: i64, before: u64, base: i64) -> usize

@@ -7,7 +7,7 @@ ghost use lib.Dec.{ltb};
 ghost use lib.Signed.{mag};
 ghost use lib.IntN.{ℤ, pos, negsuc};
 ghost use Rattle.leb128.specs.Number.{IsWidth, signed, readUnsigned, readSigned, turn, short, shortUnsigned, isNeg, shortSigned, Written};
-ghost use Rattle.leb128.specs.Inner.{Scanned, Parts, Held, HeldSigned, Room};
+ghost use Rattle.leb128.specs.Inner.{Scanned, Single, Parts, Held, HeldSigned, Room};
 use answer::Refusal;
 
 pub enum Unsigned {
@@ -84,8 +84,8 @@ fn whole(low: u64, k: u32, d: u64, bits: u32) -> Bounded
     Bounded::Over
 }
 
-// The number of `width` bits at a place.
-pub fn read_unsigned(s: &[u8], at: usize, width: u32) -> Unsigned
+// The number of `width` bits at a place, digit by digit.
+fn scan_unsigned(s: &[u8], at: usize, width: u32) -> Unsigned
     requires { ⌜ IsWidth width ⌝ }
     ensures { λ r. ⌜ r ≡ readUnsigned width (now (s .entry)) at ⌝ }
 {
@@ -100,6 +100,31 @@ pub fn read_unsigned(s: &[u8], at: usize, width: u32) -> Unsigned
             }
         },
     }
+}
+
+// The byte at a place, or 128 past the end.
+fn byte_at(s: &[u8], at: usize) -> u64
+    ensures { λ r. ⌜ Single (now (s .entry)) at r ⌝ }
+{
+    if at < s.len() {
+        return s[at] as u64;
+    }
+    128
+}
+
+// The number of `width` bits at a place. Most numbers are one byte, which any width from 7 on holds.
+pub fn read_unsigned(s: &[u8], at: usize, width: u32) -> Unsigned
+    requires { ⌜ IsWidth width ⌝ }
+    ensures { λ r. ⌜ r ≡ readUnsigned width (now (s .entry)) at ⌝ }
+{
+    let b = byte_at(s, at);
+    if b < 128 {
+        if 6 < width {
+            let next = at + 1;
+            return Unsigned::Value(b, next);
+        }
+    }
+    scan_unsigned(s, at, width)
 }
 
 // A number of 63 bits as it is, and as the negative number whose bits are its complement's.
@@ -143,8 +168,8 @@ fn whole_signed(low: u64, k: u32, d: u64, bits: u32) -> BoundedSigned
     }
 }
 
-// The number of `width` bits, the highest of them its sign, at a place.
-pub fn read_signed(s: &[u8], at: usize, width: u32) -> Signed
+// The number of `width` bits, the highest of them its sign, at a place, digit by digit.
+fn scan_signed(s: &[u8], at: usize, width: u32) -> Signed
     requires { ⌜ IsWidth width ⌝ }
     ensures { λ r. ⌜ r ≡ readSigned width (now (s .entry)) at ⌝ }
 {
@@ -159,6 +184,32 @@ pub fn read_signed(s: &[u8], at: usize, width: u32) -> Signed
             }
         },
     }
+}
+
+// A byte below 128 as a number of seven bits, the highest of them its sign.
+fn signed_byte(b: u64) -> i64
+    requires { ⌜ b < 128 ⌝ }
+    ensures { λ r. ⌜ r ≡ signed b 1 ⌝ }
+{
+    if b < 64 {
+        return plus(b);
+    }
+    minus(127 - b)
+}
+
+// The number of `width` bits, the highest of them its sign, at a place.
+pub fn read_signed(s: &[u8], at: usize, width: u32) -> Signed
+    requires { ⌜ IsWidth width ⌝ }
+    ensures { λ r. ⌜ r ≡ readSigned width (now (s .entry)) at ⌝ }
+{
+    let b = byte_at(s, at);
+    if b < 128 {
+        if 6 < width {
+            let past = at + 1;
+            return Signed::Value(signed_byte(b), past);
+        }
+    }
+    scan_signed(s, at, width)
 }
 
 // A digit, or its complement.
@@ -214,27 +265,23 @@ pub fn write_signed(out: &mut [u8], at: usize, x: i64) -> usize
     write_digits(out, at, magnitude(x), 64, is_negative(x))
 }
 
-fn count_digits(x: u64, limit: u64) -> usize
-    requires { ⌜ (64 ≤ limit) × (limit ≤ 128) ⌝ }
-    ensures { λ r. ⌜ r ≡ length (short limit false x) ⌝ }
+// The digits of a number's shortest form, by its length in bits. (The lowest bit is set first, so that 0 has one.)
+fn count_digits(x: u64) -> usize
+    ensures { λ r. ⌜ r ≡ length (short 128 false x) ⌝ }
 {
-    let mut n: usize = 1;
-    let mut rest = x;
-    while limit <= rest {
-        rest = rest / 128;
-        n += 1;
-    }
-    n
+    let odd = x / 2 * 2 + 1;
+    let zeros = u64::leading_zeros(odd) as usize;
+    (63 - zeros) / 7 + 1
 }
 
 pub fn unsigned_len(x: u64) -> usize
     ensures { λ r. ⌜ r ≡ length (shortUnsigned x) ⌝ }
 {
-    count_digits(x, 128)
+    count_digits(x)
 }
 
 pub fn signed_len(x: i64) -> usize
     ensures { λ r. ⌜ r ≡ length (shortSigned x) ⌝ }
 {
-    count_digits(magnitude(x), 64)
+    count_digits(2 * magnitude(x))
 }

@@ -12,7 +12,8 @@ use Rattle.answer.specs.declared.Answer.{Answer}
 use Rattle.answer.specs.Outcome.{Outcome, accepted, success, noRoom}
 use Rattle.answer.specs.Outcome.Laws.{Counted, answer-fits, answer-long, filled-self, filled-long, buffer-more, buffer-long}
 use Rattle.listing.specs.Text.{textOf, textRoom}
-use Rattle.listing.specs.Contract.{Shows, Copies, Lists}
+use Rattle.listing.specs.Contract.{Lists}
+use Rattle.listing.specs.Inner.{Shows, Copies}
 
 -- ---- the first i bytes are copied
 pub record Copying (page old now : List ℕ) (count i : ℕ) : Type 0 where

@@ -17,7 +17,7 @@ use borrow.Author.Needs.{needs}
 use Rattle.leb128.specs.Number.{isNeg}
 use Rattle.listing.specs.Text.{dash, decimal, decimalSigned}
 use Rattle.listing.specs.Text.Laws.{decimal-one, decimal-more, length-one, length-more, decimal-some, decimal-most, signed-plus, signed-minus}
-use Rattle.listing.specs.Contract.{Puts, Sized}
+use Rattle.listing.specs.Inner.{Puts, Sized}
 use Rattle.listing.proofs.PutNeeds.{put-put}
 
 -- ---- how many digits: n are counted, and the rest has the others

@@ -9,7 +9,7 @@ use lib.ListN.{length, take, getD, set, length-append}
 use lib.Seq.{take-suc, take-all, length-take-le, sets, length-sets}
 use borrow.Author.Needs.{needs}
 use Rattle.answer.specs.Outcome.Laws.{sets-append}
-use Rattle.listing.specs.Contract.{Puts}
+use Rattle.listing.specs.Inner.{Puts}
 
 -- ---- one byte
 pub byte-put : (old : List ℕ) (at b : ℕ) → Puts old (set old at b) at (at + 1) (b ∷ []) 1

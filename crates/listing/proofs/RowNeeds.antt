@@ -17,7 +17,7 @@ use borrow.Author.Needs.{needs, sfits-of}
 use Rattle.relleb.specs.Table.{Row, row}
 use Rattle.listing.specs.declared.kind.Kind.{Kind}
 use Rattle.listing.specs.Text.{decimal, decimalSigned, hasType, hasAddend, header, field, rowText, rowAt, rowsTo}
-use Rattle.listing.specs.Contract.{Puts, Room}
+use Rattle.listing.specs.Inner.{Puts, Room}
 use Rattle.listing.proofs.PutNeeds.{put-put}
 use Rattle.listing.proofs.DecimalNeeds.{Bits, plain}
 

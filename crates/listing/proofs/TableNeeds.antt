@@ -35,7 +35,7 @@ use Rattle.listing.specs.declared.kind.Line.{Line}
 use Rattle.listing.specs.declared.kind.Line.the-variants.{Names, Unknown}
 use Rattle.listing.specs.Text.{decimal, lineOf, tried, firstLine, hasType, hasAddend, offsetRow, pairRow, mapped, rowsOf, header, tab, feed, refusedWord, rowText, rowsFrom, rowAt, rowsTo, refusalText, recordLimit, tableLimit, printed, textOf}
 use Rattle.listing.specs.Text.Laws.{answer-mapped, Source, source, offset-line, pair-line, rows-all, printed-rows, printed-refusal, text-unknown, text-limit, text-table}
-use Rattle.listing.specs.Contract.{Puts, Room, Readable, Reads, Shows}
+use Rattle.listing.specs.Inner.{Puts, Room, Readable, Reads, Shows}
 use Rattle.listing.proofs.PutNeeds.{put-put}
 
 abbrev none : Row

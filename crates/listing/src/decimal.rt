@@ -2,7 +2,7 @@
 ghost use Prim.Native.Nat.{_+_, _≤_};
 ghost use lib.ListN.{length};
 ghost use Rattle.listing.specs.Text.{decimal, decimalSigned};
-ghost use Rattle.listing.specs.Contract.{Puts, Sized};
+ghost use Rattle.listing.specs.Inner.{Puts, Sized};
 use crate::page;
 
 // How many digits a number has.

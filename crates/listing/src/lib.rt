@@ -1,7 +1,8 @@
 // The listing of a table: from the program's whole input to its whole text.
 ghost use Prim.Native.Nat.{_≤_};
 ghost use lib.ListN.{length, take};
-ghost use Rattle.listing.specs.Contract.{Lists, Copies};
+ghost use Rattle.listing.specs.Contract.{Lists};
+ghost use Rattle.listing.specs.Inner.{Copies};
 use answer::Answer;
 
 mod decimal;

@@ -2,7 +2,7 @@
 ghost use mathlib.Core.List.{List, [], _∷_};
 ghost use Prim.Native.Nat.{_+_, _≤_};
 ghost use lib.ListN.{length};
-ghost use Rattle.listing.specs.Contract.{Puts};
+ghost use Rattle.listing.specs.Inner.{Puts};
 
 // One byte.
 pub fn put_byte(page: &mut [u8], at: usize, b: u8) -> usize

@@ -5,7 +5,7 @@ ghost use Prim.Native.Nat.{_+_, _*_, _≤_};
 ghost use lib.ListN.{length};
 ghost use Rattle.relleb.specs.Table.{row};
 ghost use Rattle.listing.specs.Text.{decimal, decimalSigned, field, header, rowText, rowsTo};
-ghost use Rattle.listing.specs.Contract.{Puts, Room};
+ghost use Rattle.listing.specs.Inner.{Puts, Room};
 use crate::decimal;
 use crate::kind::Kind;
 use crate::page;

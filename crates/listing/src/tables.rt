@@ -2,7 +2,7 @@
 ghost use Prim.Native.Nat.{_≤_};
 ghost use lib.ListN.{length};
 ghost use Rattle.listing.specs.Text.{printed, rowsOf, refusalText, tableLimit, textOf};
-ghost use Rattle.listing.specs.Contract.{Puts, Readable, Reads, Shows};
+ghost use Rattle.listing.specs.Inner.{Puts, Readable, Reads, Shows};
 use crate::decimal;
 use crate::kind;
 use crate::kind::Kind;

@@ -24,7 +24,7 @@ use Rattle.records.specs.Writing.{Put, bytes}
 use Rattle.records.specs.Writing as Writing
 use Rattle.wrap.specs.Wrap.{residue, wrapped, same}
 use Rattle.relleb.specs.Table.{Row, row, State, state, fieldOf, changeBytes, symbolBytes, typeBytes, fieldBytes, entryBytes, putOf}
-use Rattle.relleb.specs.Contract.{Measured}
+use Rattle.relleb.specs.Inner.{Measured}
 use Rattle.relleb.specs.Table.Laws.{put-space, put-addend, put-bytes, entry-is, field-is, symbol-bytes, type-bytes, offset-bytes, field-bytes, change-none, change-some}
 
 abbrev Bits : ℤ → ℤ

@@ -28,7 +28,7 @@ use Rattle.relleb.specs.declared.reader.Entry.{Entry}
 use Rattle.relleb.specs.declared.reader.Entry.the-variants.{Record, Refused}
 use Rattle.relleb.specs.Table.{Row, row, State, state, addendOf, symbolOf, typeOf, offsetOf, stepAt}
 use Rattle.relleb.specs.Table.Laws.{addend-not, addend-is, symbol-not, symbol-same, symbol-other, type-not, type-is, offset-not, offset-is, step-is}
-use Rattle.relleb.specs.Contract.{entryStep, entryWithout, entryWithoutOffset}
+use Rattle.relleb.specs.Inner.{entryStep, entryWithout, entryWithoutOffset}
 
 -- ---- a number that is refused
 module _ {r : Signed} where

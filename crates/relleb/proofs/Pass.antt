@@ -27,7 +27,8 @@ use Rattle.relleb.specs.declared.reader.Entry.{Entry}
 use Rattle.relleb.specs.declared.reader.Entry.the-variants.{Record, Refused}
 use Rattle.relleb.specs.Table.{Row, row, state, start, stepAt, decode}
 use Rattle.relleb.specs.Table.Laws.{decode-is}
-use Rattle.relleb.specs.Contract.{offsetIn, typeIn, symbolIn, addendIn, entryStep, Fillable, Filled}
+use Rattle.relleb.specs.Contract.{offsetIn, typeIn, symbolIn, addendIn, Filled}
+use Rattle.relleb.specs.Inner.{entryStep, Fillable}
 
 -- the records of a table that has so many from a place on
 abbrev pub body : ℕ → List ℕ → ℕ → ℕ → Outcome (List Row)

@@ -23,7 +23,8 @@ use Rattle.relleb.specs.declared.writer.Fields.{Fields}
 use Rattle.relleb.specs.declared.writer.Fields.the-variants.{Numbers, Refused}
 use Rattle.relleb.specs.Table.{Row, row, state, start, behind, rows, fieldBytes, putOf, encode}
 use Rattle.relleb.specs.Table.Laws.{rows-length, rows-from, encode-is}
-use Rattle.relleb.specs.Contract.{Same, fieldsPut, Measured, Listed, Puttable}
+use Rattle.relleb.specs.Contract.{Same, Listed}
+use Rattle.relleb.specs.Inner.{fieldsPut, Measured, Puttable}
 
 abbrev Bits : ℤ → ℤ
 Bits z = toZ w64 (ofZ w64 z)

@@ -7,7 +7,8 @@ ghost use Rattle.answer.specs.Outcome.{pick, foundOf};
 ghost use Rattle.leb128.specs.Number.{IsWidth, Written};
 ghost use Rattle.records.specs.Writing.{puts, Puts};
 ghost use Rattle.relleb.specs.Table.{row, state, start, behind, rows, symbolBytes, typeBytes, fieldBytes, putOf, encode};
-ghost use Rattle.relleb.specs.Contract.{fieldsPut, Measured, Listed, Puttable};
+ghost use Rattle.relleb.specs.Contract.{Listed};
+ghost use Rattle.relleb.specs.Inner.{fieldsPut, Measured, Puttable};
 use answer::Found;
 use answer::Refusal;
 

@@ -18,7 +18,8 @@ use Rattle.answer.specs.Outcome.Laws.{answer-fits, answer-long, answer-refused,
 use Rattle.records.specs.Writing.{Puts}
 use Rattle.records.proofs.Writing.{puts-filled}
 use Rattle.apa1.specs.Table.{Row, decode, rows, encode}
-use Rattle.apa1.specs.Contract.{offsetOf, addendOf, readOutcome, Filled, Fillable, Reads, writeOutcome, Listed, Puttable, Takes, Writes}
+use Rattle.apa1.specs.Contract.{offsetOf, addendOf, readOutcome, Filled, Reads, writeOutcome, Listed, Writes}
+use Rattle.apa1.specs.Inner.{Fillable, Puttable, Takes}
 
 -- ---- reading
 module _ (s : List ℕ) (m k : ℕ) where

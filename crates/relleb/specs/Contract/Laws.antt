@@ -26,7 +26,8 @@ use Rattle.word.specs.declared.Named.the-variants.{Is, Unknown}
 use Rattle.records.specs.Writing.{Puts}
 use Rattle.records.proofs.Writing.{puts-filled}
 use Rattle.relleb.specs.Table.{Row, decode, rows, encode}
-use Rattle.relleb.specs.Contract.{offsetIn, typeIn, symbolIn, addendIn, even, Same, readIn, readOutcome, Filled, Fillable, Reads, writeIn, writeOutcome, Listed, Puttable, Writes}
+use Rattle.relleb.specs.Contract.{offsetIn, typeIn, symbolIn, addendIn, even, Same, readIn, readOutcome, Filled, Reads, writeIn, writeOutcome, Listed, Writes}
+use Rattle.relleb.specs.Inner.{Fillable, Puttable}
 
 -- ---- the class's width
 pub class-width : (k : class.Class) {w : ℕ} → w ≡ bitsOf k → IsWidth w
