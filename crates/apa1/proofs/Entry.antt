@@ -2,7 +2,7 @@
 -- and what the match found r to be.
 -- Assumes nothing.
 use Prim.Native.Nat.{ℕ}
-use mathlib.Core.Path.{_≡_, refl, ap, ap₂, sym, _∙_}
+use mathlib.Core.Path.{_≡_, refl, ap, ap₂, sym, _∙_, subst}
 use mathlib.Core.Bool.{Bool, true, false, not}
 use mathlib.Core.List.{List, [], _∷_}
 use lib.IntN.{ℤ, pos, _+ℤ_}
@@ -25,7 +25,7 @@ use Rattle.apa1.specs.declared.reader.Entry.{Entry}
 use Rattle.apa1.specs.declared.reader.Entry.the-variants.{Record, Refused}
 use Rattle.apa1.specs.Table.{Row, row, identifier, stepAt, headAt}
 use Rattle.apa1.specs.Table.Laws.{step-not, step-not-2, step-is, head-other, head-not, head-is, count-negative, count-other}
-use Rattle.apa1.specs.Inner.{entryStep, entryWithout, headWithout}
+use Rattle.apa1.specs.Inner.{entryStep, entryWithout, headWithout, Skips}
 
 -- ---- a number that is refused
 module _ {r : Signed} where
@@ -66,6 +66,18 @@ module _ (s : List ℕ) (at o : ℕ) (a : ℤ) {r : Signed} (e : r ≡ readSigne
         sym (step-is s at (row o a) (sym e ∙ f) (sym g ∙ h) u)
 
 pub ruleset entries = (entry-not, entry-not-2, entry-is, needs)
+
+-- ---- a record that is passed over
+module _ (s : List ℕ) (at : ℕ) {r : Signed} (e : r ≡ readSigned 64 s at) where
+  pub skip-not : {why : Refusal} {p : ℕ} → r ≡ SRefused why p → Skips s at r
+  skip-not f = subst (Skips s at) (sym f) (λ prev. step-not s at prev (sym e ∙ f))
+
+  module _ {d : ℤ} {next : ℕ} (f : r ≡ SValue d next) where
+    pub skip-is : (t : Signed) → t ≡ readSigned 64 s next → Skips s at t
+    skip-is (SValue a past) g = λ prev. (_, step-is s at prev (sym e ∙ f) (sym g) refl)
+    skip-is (SRefused why p) g = λ prev. step-not-2 s at prev (sym e ∙ f) (sym g)
+
+pub ruleset skips = (skip-not, skip-is, needs)
 
 -- ---- the head
 module _ (s : List ℕ) {t : Bool} (e : t ≡ startsWith identifier s) where

@@ -1,7 +1,7 @@
 -- What both passes go by, as the code asks it: x is what the reader of a record returned.
 -- Assumes nothing.
 use Prim.Native.Nat.{ℕ, _+_, _-_, _*_, _^_, _≤_, _<_}
-use mathlib.Core.Path.{_≡_, refl, ap, sym, _∙_}
+use mathlib.Core.Path.{_≡_, refl, ap, sym, _∙_, subst}
 use mathlib.Core.List.{List, [], _∷_, _++_}
 use native.Mathlib.Omega.{arith}
 use lib.IntN.{ℤ, pos}
@@ -15,6 +15,8 @@ use Rattle.answer.specs.declared.Found.{Found}
 use Rattle.answer.specs.declared.Found.the-variants as found
 use Rattle.answer.specs.Outcome.{Outcome, foundOf}
 use Rattle.answer.specs.Outcome.Laws.{accepted-refused}
+use Rattle.leb128.specs.declared.Signed.{Signed}
+use Rattle.leb128.specs.declared.Signed.the-variants.{Value as SValue, Refused as SRefused}
 use Rattle.leb128.specs.declared.Unsigned.{Unsigned}
 use Rattle.leb128.specs.declared.Unsigned.the-variants.{Value as UValue, Refused as URefused}
 use Rattle.records.specs.Columns.{Column}
@@ -27,26 +29,27 @@ use Rattle.apa1.specs.declared.reader.Entry.the-variants.{Record, Refuse
 use Rattle.apa1.specs.Table.{Row, row, start, stepAt, headAt, decode}
 use Rattle.apa1.specs.Table.Laws.{decode-is}
 use Rattle.apa1.specs.Contract.{offsetOf, addendOf, Filled}
-use Rattle.apa1.specs.Inner.{entryStep, Fillable}
+use Rattle.apa1.specs.Inner.{entryStep, Skips, Fillable}
 
 -- the records of a table that has so many from a place on
 abbrev pub body : List ℕ → ℕ → ℕ → Outcome (List Row)
 body s n first = records (stepAt s) (length s) n first start
 
--- ---- the first pass. The loop has the addend's bits, w
-pub record Walking (s : List ℕ) (n first left at o w : ℕ) : Type 0 where
-  pub scanned : Scanned (stepAt s) (length s) (body s n first) n left at (row o (toZ w64 w))
+-- ---- the first pass: the records before a place led to some sums
+pub record Walking (s : List ℕ) (n first left at : ℕ) : Type 0 where
+  pub prev : Row
+  pub scanned : Scanned (stepAt s) (length s) (body s n first) n left at prev
 
-pub walk-begin : (s : List ℕ) (n first : ℕ) → Walking s n first n first 0 0
-walk-begin s n first = record { scanned = scanned-none (stepAt s) (length s) n first start }
+pub walk-begin : (s : List ℕ) (n first : ℕ) → Walking s n first n first
+walk-begin s n first = record { prev = start; scanned = scanned-none (stepAt s) (length s) n first start }
 
-module _ {s : List ℕ} {n first left at o w : ℕ} (i : Walking s n first left at o w) where
-  module _ {x : Entry} (h : 0 < left) (e : entryStep x ≡ stepAt s at (row o (toZ w64 w))) where
-    pub walk-more : {o′ past : ℕ} {a : ℤ} → x ≡ Record o′ a past → toZ w64 (ofZ w64 a) ≡ a → Walking s n first (left - 1) past o′ (ofZ w64 a)
-    walk-more f b = record { scanned = rw b (scanned-more (i .scanned) h (sym e ∙ ap entryStep f)) }
+module _ {s : List ℕ} {n first left at : ℕ} (i : Walking s n first left at) where
+  module _ (x : Signed) (h : 0 < left) (e : Skips s at x) where
+    pub walk-more : {z : ℤ} {past : ℕ} → x ≡ SValue z past → Walking s n first (left - 1) past
+    walk-more f = let (y, g) = subst (Skips s at) f e (i .prev) in record { prev = y; scanned = scanned-more (i .scanned) h g }
 
-    pub walk-bad : {why : Refusal} {p : ℕ} → x ≡ Refused why p → found.Refused why p ≡ foundOf (body s n first)
-    walk-bad f = scanned-bad (i .scanned) h (sym e ∙ ap entryStep f)
+    pub walk-bad : {why : Refusal} {p : ℕ} → x ≡ SRefused why p → found.Refused why p ≡ foundOf (body s n first)
+    walk-bad f = scanned-bad (i .scanned) h (subst (Skips s at) f e (i .prev))
 
   pub walk-end : left ≤ 0 → length s ≤ at → found.Count n ≡ foundOf (body s n first)
   walk-end h k = scanned-end (i .scanned) h k

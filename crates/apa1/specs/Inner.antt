@@ -16,7 +16,7 @@ use Rattle.records.specs.Reading.{Step, one, none, Fitting}
 use Rattle.records.specs.Writing.{Fits}
 use Rattle.apa1.specs.declared.reader.Entry.{Entry}
 use Rattle.apa1.specs.declared.reader.Entry.the-variants.{Record, Refused}
-use Rattle.apa1.specs.Table.{Row, row, rows, encode}
+use Rattle.apa1.specs.Table.{Row, row, stepAt, rows, encode}
 
 -- an accepted list for which both columns have room
 pub record Fillable (o : Outcome (List Row)) (os : List ℕ) (us : List ℤ) : Type 0 where
@@ -45,3 +45,8 @@ entryWithout (SValue z next) = Refused Width next
 abbrev pub headWithout : Signed → Unsigned
 headWithout (SRefused why p) = URefused why p
 headWithout (SValue z next) = URefused Width next
+
+-- what two numbers at a place are, whatever record stands before: a record that ends where the second does, or a refusal
+abbrev pub Skips : List ℕ → ℕ → Signed → Type 0
+Skips s at (SValue z past) = (prev : Row) → (x : Row) × (stepAt s at prev ≡ one x past x)
+Skips s at (SRefused why p) = (prev : Row) → stepAt s at prev ≡ none why p

@@ -6,7 +6,7 @@ ghost use Rattle.records.specs.Identifier.{startsWith};
 ghost use Rattle.records.specs.Reading.{records};
 ghost use Rattle.apa1.specs.Table.{row, identifier, start, stepAt, headAt, decode};
 ghost use Rattle.apa1.specs.Contract.{Filled};
-ghost use Rattle.apa1.specs.Inner.{entryStep, entryWithout, headWithout, Fillable};
+ghost use Rattle.apa1.specs.Inner.{entryStep, entryWithout, headWithout, Skips, Fillable};
 use answer::Found;
 use answer::Refusal;
 use leb128::Signed;
@@ -47,6 +47,17 @@ fn entry_at(s: &[u8], at: usize, offset: u64, addend: i64) -> Entry
     )
 }
 
+// The second number of the record at a place, whose next place is past the record, or the refusal of either.
+fn skip_at(s: &[u8], at: usize) -> Signed
+    ensures { λ r. ⌜ Skips (now (s .entry)) at r ⌝ }
+{
+    let first = leb128::read_signed(s, at, 64);
+    let Signed::Value(_, next) = first else {
+        return first;
+    };
+    leb128::read_signed(s, next, 64)
+}
+
 // The refusal of the count's number, as the count's.
 fn without_count(number: Signed) -> Unsigned
     ensures { λ r. ⌜ r ≡ headWithout number ⌝ }
@@ -81,22 +92,18 @@ fn head_of(s: &[u8]) -> Unsigned
     Unsigned::Value(leb128::magnitude(n), first)
 }
 
-// The first pass over so many records from a place on: their count, or the refusal.
+// The first pass over so many records from a place on: their count, or the refusal. It needs no sums: none is refused.
 fn walk(s: &[u8], count: u64, first: usize) -> Found
     ensures { λ r. ⌜ r ≡ foundOf (records (stepAt (now (s .entry))) (length (now (s .entry))) count first start) ⌝ }
 {
     let mut left = count;
     let mut at = first;
-    let mut offset: u64 = 0;
-    let mut addend: i64 = 0;
     while 0 < left {
-        match entry_at(s, at, offset, addend) {
-            Entry::Refused(why, place) => {
+        match skip_at(s, at) {
+            Signed::Refused(why, place) => {
                 return Found::Refused(why, place as u64);
             }
-            Entry::Record(o, a, past) => {
-                offset = o;
-                addend = a;
+            Signed::Value(_, past) => {
                 at = past;
                 left -= 1;
             }

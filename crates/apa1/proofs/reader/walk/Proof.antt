@@ -3,51 +3,51 @@ use Rattle.apa1.proofs.reader.walk.Statement.{statement}
 use Rattle.apa1.proofs.reader.walk.Tie as tie
 use Rattle.apa1.proofs.reader.walk.Reads as reads
 use Rattle.apa1.proofs.reader.walk.Lts as lts
-use Rattle.apa1.proofs.reader.entry_at.Reads as entry-at-reads
+use Rattle.apa1.proofs.reader.skip_at.Reads as skip-at-reads
 
 abbrev Inv-loop : tie.InvT-loop
-Inv-loop s count first left₀ at₀ offset₀ addend₀ left at offset addend = Walking s count first left at offset addend
+Inv-loop s count first left₀ at₀ left at = Walking s count first left at
 
 abbrev μ-loop : tie.MeasureT-loop
-μ-loop s count first left₀ at₀ offset₀ addend₀ left at offset addend = left
+μ-loop s count first left₀ at₀ left at = left
 
--- src/reader.rt:87:5
+-- src/reader.rt:101:5
 loop-holds : tie.Need-loop-holds Inv-loop μ-loop
 loop-holds c = search walks
 
--- src/reader.rt:88:15
-entry-at-requires : tie.Need-entry-at-requires Inv-loop μ-loop
-entry-at-requires c κs = search walks
+-- src/reader.rt:102:15
+skip-at-requires : tie.Need-skip-at-requires Inv-loop μ-loop
+skip-at-requires c κs = search walks
 
--- src/reader.rt:89:28
+-- src/reader.rt:103:29
 enum-known-why : tie.Need-enum-known-why Inv-loop μ-loop
 enum-known-why c = search walks
 
--- src/reader.rt:90:17
+-- src/reader.rt:104:17
 returns : tie.Need-returns Inv-loop μ-loop
 returns c = search walks
 
--- src/reader.rt:92:27
-enum-known-o : tie.Need-enum-known-o Inv-loop μ-loop
-enum-known-o c = search walks
+-- src/reader.rt:106:30
+enum-known-past : tie.Need-enum-known-past Inv-loop μ-loop
+enum-known-past c = search walks
 
--- src/reader.rt:96:17
+-- src/reader.rt:108:17
 sub-left : tie.Need-sub-left Inv-loop μ-loop
 sub-left c = search walks
 
--- src/reader.rt:87:5
+-- src/reader.rt:101:5
 loop-less : tie.Need-loop-less Inv-loop μ-loop
 loop-less c = search walks
 
--- src/reader.rt:87:5
+-- src/reader.rt:101:5
 loop-again : tie.Need-loop-again Inv-loop μ-loop
 loop-again c = search walks
 
--- src/reader.rt:101:9
+-- src/reader.rt:113:9
 returns-2 : tie.Need-returns-2 Inv-loop μ-loop
 returns-2 c = search walks
 
--- src/reader.rt:80:1
+-- src/reader.rt:96:1
 returns-3 : tie.Need-returns-3 Inv-loop μ-loop
 returns-3 c = search walks
 
@@ -58,10 +58,10 @@ walk-spec =
     Inv-loop
     μ-loop
     loop-holds
-    entry-at-requires
+    skip-at-requires
     enum-known-why
     returns
-    enum-known-o
+    enum-known-past
     sub-left
     loop-less
     loop-again
