@@ -31,7 +31,8 @@ use Rattle.apr1.specs.declared.reader.Head.{Head}
 use Rattle.apr1.specs.declared.reader.Head.the-variants.{Table, Refused}
 use Rattle.apr1.specs.Contract.{itself}
 use Rattle.apr1.specs.Table.{identifier, last, Pair, pair, run, reach, expand, stepAt, joined, decode, withFirst, withCount}
-use Rattle.apr1.specs.Table.Laws.{run-length, run-more, expand-none, expand-more, reached, expand-append, reached-append, joined-is, joined-not}
+use Rattle.apr1.specs.Table.Laws.{run-length, run-more, expand-none, expand-more, reached, expand-append, reached-append, joined-is, joined-not, step-not, step-not-2}
+use Rattle.apr1.proofs.EntryNeeds.{entry-far, entry-is, entry-in}
 use Rattle.apr1.specs.Inner.{entryStep, Within, headFirst, headCount, headAt, Headed, unheaded, body, Walkable, Runnable, Ran, Started, Fillable, Filled}
 
 -- the records of the pairs
@@ -234,36 +235,59 @@ module _ (s : List ℕ) (n a first : ℕ) (old : List ℕ) (f : Fillable (body s
       go (suc m) (b ∷ l) h = refl
 
 module _ {s old : List ℕ} {n a first : ℕ} {column : List ℕ} {left at x i : ℕ} (f : Fillable (body s n a first) old) (g : Storing s n a first old column left at x i) where
-  pub store-low : x ≤ last
+  store-low : x ≤ last
   store-low = g .passing .low
 
   pub store-long : length column ≡ length old
   store-long = buffer-long (a ∷ expand a (g .ps)) old i (g .held) (sym (g .next)) (omega (arith, g .next, stored-part (g .passing) (f .is), f .fits))
 
-  module _ {t : Entry} (h : 0 < left) (e : entryStep t ≡ stepAt s at x) where
-    pub store-bad : {w : Refusal} {p : ℕ} {new : List ℕ} → t ≡ entry.Refused w p → Filled (body s n a first) old new
-    store-bad k = absurd (accepted-refused (f .is) (passing-bad (g .passing) h e k))
+  -- the two numbers at the place: none of an accepted table is refused
+  module _ (h : 0 < left) {r : Unsigned} (e : r ≡ readUnsigned 32 s at) where
+    bad : {w : Refusal} {p : ℕ} → none w p ≡ stepAt s at x → ⊥
+    bad {w} {p} q = accepted-refused (f .is) (passing-bad (g .passing) {t = entry.Refused w p} h q refl)
 
-    module _ {c d y past : ℕ} (k : t ≡ entry.Pair c d y past) (w : Within s at x t) where
-      grown : a ∷ expand a (g .ps ++ pair c d ∷ []) ≡ (a ∷ expand a (g .ps)) ++ run x c d
-      grown = ap (λ (l : List ℕ). a ∷ l) (more-offsets a x c d (g .ps) (g .passing .ends))
+    pub store-bad : {w : Refusal} {p : ℕ} {new : List ℕ} → r ≡ unsigned.Refused w p → Filled (body s n a first) old new
+    store-bad k = absurd (bad (sym (step-not s at x (sym e ∙ k))))
 
-      room : i + c ≤ length old
-      room =
-          omega (arith, g .next, f .fits, stored-part (passing-more (g .passing) h e k w) (f .is), ap length grown, length-append (a ∷ expand a (g .ps)) (run x c d), run-length x c d)
+    module _ {c next : ℕ} (k : r ≡ unsigned.Value c next) {t : Unsigned} (m : t ≡ readUnsigned 32 s next) where
+      pub store-bad-2 : {w : Refusal} {p : ℕ} {new : List ℕ} → t ≡ unsigned.Refused w p → Filled (body s n a first) old new
+      store-bad-2 q = absurd (bad (sym (step-not-2 s at x (sym e ∙ k) (sym m ∙ q))))
 
-      pub store-runs : Runnable column i x c d
-      store-runs = record { room = omega (arith, room, store-long); low = let q = within (g .passing) h e k w in omega (arith, q .3, q .4) }
+      module _ {d past : ℕ} (q : t ≡ unsigned.Value d past) where
+        low : x + c * d ≤ last
+        low = elim (decLt last (x + c * d)) [ yes l ↦ absurd (bad (entry-far s at x e k m q l store-low)) | no l ↦ omega arith ]
 
-      pub store-more : {new : List ℕ} {m : ℕ} → Ran column i (run x c d) m new → Storing s n a first old new (left - 1) past y m
-      store-more {new} {m} r =
-          record {
-            ps = g .ps ++ pair c d ∷ [];
-            passing = passing-more (g .passing) h e k w;
-            next = omega (arith, r .next, g .next, ap length grown, length-append (a ∷ expand a (g .ps)) (run x c d));
-            held = r .list ∙ buffer-more (a ∷ expand a (g .ps)) old i (run x c d) (g .held) (sym (g .next)) (omega (arith, room, run-length x c d))
-                ∙ ap (λ (q : List ℕ). q ++ drop (i + length (run x c d)) old) (sym grown) ∙ ap (λ (q : ℕ). (a ∷ expand a (g .ps ++ pair c d ∷ [])) ++ drop q old) (sym (r .next));
-          }
+        is : entryStep (entry.Pair c d (x + c * d) past) ≡ stepAt s at x
+        is = entry-is s at x e k m q low store-low
+
+        whole : Within s at x (entry.Pair c d (x + c * d) past)
+        whole = entry-in s at x e k m q low
+
+        grown : a ∷ expand a (g .ps ++ pair c d ∷ []) ≡ (a ∷ expand a (g .ps)) ++ run x c d
+        grown = ap (λ (l : List ℕ). a ∷ l) (more-offsets a x c d (g .ps) (g .passing .ends))
+
+        room : i + c ≤ length old
+        room =
+            omega (arith, g .next, f .fits, stored-part (passing-more (g .passing) h is refl whole) (f .is), ap length grown, length-append (a ∷ expand a (g .ps)) (run x c d), run-length x c d)
+
+        pub store-runs : Runnable column i x c d
+        store-runs = record { room = omega (arith, room, store-long); low = omega (arith, low) }
+
+        pub store-product : Fits w64 (c * d)
+        store-product = record { fits = omega (arith, low) }
+
+        pub store-sum : Fits w64 (x + c * d)
+        store-sum = record { fits = omega (arith, low) }
+
+        pub store-more : {new : List ℕ} {m : ℕ} → Ran column i (run x c d) m new → Storing s n a first old new (left - 1) past (x + c * d) m
+        store-more {new} {m} r =
+            record {
+              ps = g .ps ++ pair c d ∷ [];
+              passing = passing-more (g .passing) h is refl whole;
+              next = omega (arith, r .next, g .next, ap length grown, length-append (a ∷ expand a (g .ps)) (run x c d));
+              held = r .list ∙ buffer-more (a ∷ expand a (g .ps)) old i (run x c d) (g .held) (sym (g .next)) (omega (arith, room, run-length x c d))
+                  ∙ ap (λ (q : List ℕ). q ++ drop (i + length (run x c d)) old) (sym grown) ∙ ap (λ (q : ℕ). (a ∷ expand a (g .ps ++ pair c d ∷ [])) ++ drop q old) (sym (r .next));
+            }
 
   pub store-end : left ≤ 0 → Filled (body s n a first) old column
   store-end h =
@@ -277,7 +301,7 @@ module _ {s old : List ℕ} {n a first : ℕ} {column : List ℕ} {left at x i :
 
 pub ruleset starts = (start-kept, start-in, start-room, start-is, start-done, needs)
 
-pub ruleset stores = (store-begin, store-low, store-long, store-bad, store-runs, store-more, store-end, needs)
+pub ruleset stores = (store-begin, store-long, store-bad, store-bad-2, store-runs, store-product, store-sum, store-more, store-end, needs)
 
 -- ---- what a head says of the table
 abbrev headed : List ℕ → Head → Outcome (List ℕ)

@@ -160,7 +160,7 @@ fn fill_run(column: &mut [u64], from: usize, x: u64, c: u64, d: u64) -> usize
     i
 }
 
-// The second pass over pairs that the first accepted, behind the first offset.
+// The second pass over pairs that the first accepted, behind the first offset: none is tested again.
 fn store_pairs(s: &[u8], n: u64, a: u64, first: usize, column: &mut [u64])
     requires { ⌜ Fillable (body (now s) n a first) (now column) × Walkable (now s) a first × Started a (now column) ⌝ }
     ensures { λ _. ⌜ Filled (body (now (s .entry)) n a first) (now (column .entry)) (now (column .exit)) ⌝ }
@@ -170,17 +170,19 @@ fn store_pairs(s: &[u8], n: u64, a: u64, first: usize, column: &mut [u64])
     let mut x = a;
     let mut i: usize = 1;
     while 0 < rest {
-        match entry_at(s, from, x) {
-            Entry::Refused(_, _) => {
-                return;
-            }
-            Entry::Pair(c, d, reach, past) => {
-                i = fill_run(&mut *column, i, x, c, d);
-                x = reach;
-                from = past;
-                rest -= 1;
-            }
-        }
+        let number = leb128::read_unsigned(s, from, 32);
+        let Unsigned::Value(c, next) = number else {
+            return;
+        };
+        let second = leb128::read_unsigned(s, next, 32);
+        let Unsigned::Value(d, past) = second else {
+            return;
+        };
+        i = fill_run(&mut *column, i, x, c, d);
+        let reach = x + c * d;
+        x = reach;
+        from = past;
+        rest -= 1;
     }
 }
 
