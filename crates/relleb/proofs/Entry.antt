@@ -2,7 +2,7 @@
 -- the match found r to be. x is the entry of the numbers behind.
 -- Assumes nothing.
 use Prim.Native.Nat.{ℕ, _+_, _%_, _^_, _<_}
-use mathlib.Core.Path.{_≡_, refl, ap, ap₂, sym, _∙_}
+use mathlib.Core.Path.{_≡_, refl, ap, ap₂, sym, _∙_, subst}
 use mathlib.Core.Bool.{Bool, true, false}
 use mathlib.Core.List.{List}
 use native.Mathlib.Omega.{arith}
@@ -28,7 +28,7 @@ use Rattle.relleb.specs.declared.reader.Entry.{Entry}
 use Rattle.relleb.specs.declared.reader.Entry.the-variants.{Record, Refused}
 use Rattle.relleb.specs.Table.{Row, row, State, state, addendOf, symbolOf, typeOf, offsetOf, stepAt}
 use Rattle.relleb.specs.Table.Laws.{addend-not, addend-is, symbol-not, symbol-same, symbol-other, type-not, type-is, offset-not, offset-is, step-is}
-use Rattle.relleb.specs.Inner.{entryStep, entryWithout, entryWithoutOffset}
+use Rattle.relleb.specs.Inner.{entryStep, entryWithout, entryWithoutOffset, signedWithout, Skips}
 
 -- ---- a number that is refused
 module _ {r : Signed} where
@@ -109,6 +109,49 @@ module _ (W : ℕ) (s : List ℕ) (at o t : ℕ) (a : ℤ) {r : Unsigned} (e : r
       h ∙ ap₂ (λ (c : ℤ) (n : ℕ). typeOf W s (state o t c) n (readSigned 32 s next)) j g ∙ sym (step-is W s at (state o t a) ∙ offset-is W s (state o t a) (sym e ∙ f))
 
 pub ruleset offsets = (offset-none, offset-more, needs)
+
+-- ---- a record that is passed over
+pub unread-refused : {r : Unsigned} {why : Refusal} {p : ℕ} → r ≡ URefused why p → SRefused why p ≡ signedWithout r
+unread-refused e = ap signedWithout (sym e)
+
+pub unread-asked : {r : Unsigned} {z next : ℕ} → r ≡ UValue z next → SRefused Width next ≡ signedWithout r
+unread-asked e = ap signedWithout (sym e)
+
+pub ruleset unreads = (unread-refused, unread-asked, needs)
+
+module _ (W : ℕ) (s : List ℕ) (at : ℕ) {r : Unsigned} (e : r ≡ readUnsigned W s at) where
+  pub skip-none : (x : Signed) {why : Refusal} {p : ℕ} → r ≡ URefused why p → x ≡ signedWithout r → Skips W s at x
+  skip-none x f g = subst (Skips W s at) (sym (g ∙ ap signedWithout f)) (λ prev. step-is W s at prev ∙ offset-not W s prev (sym e ∙ f))
+
+  module _ {d next : ℕ} (f : r ≡ UValue d next) {t : Signed} (g : t ≡ readSigned 32 s next) where
+    typed : (prev : State) → stepAt W s at prev ≡ typeOf W s prev ((prev .offset + d) % 2 ^ W) (readSigned 32 s next)
+    typed prev = step-is W s at prev ∙ offset-is W s prev (sym e ∙ f)
+
+    pub skip-type : {why : Refusal} {p : ℕ} → t ≡ SRefused why p → Skips W s at t
+    skip-type h = subst (Skips W s at) (sym h) (λ prev. typed prev ∙ type-not W s prev _ (sym g ∙ h))
+
+    module _ {b : ℤ} {after : ℕ} (h : t ≡ SValue b after) {y : Signed} (k : y ≡ readSigned 33 s after) where
+      placed : (prev : State) → stepAt W s at prev
+          ≡ symbolOf W s (prev .addend) ((prev .offset + d) % 2 ^ W) (residue 32 (pos (prev .type) +ℤ b)) (readSigned 33 s after)
+      placed prev = typed prev ∙ type-is W s prev _ (sym g ∙ h)
+
+      pub skip-symbol : {why : Refusal} {p : ℕ} → y ≡ SRefused why p → Skips W s at y
+      skip-symbol l = subst (Skips W s at) (sym l) (λ prev. placed prev ∙ symbol-not W s _ _ _ (sym k ∙ l))
+
+      module _ {q : ℤ} {past : ℕ} (l : y ≡ SValue q past) {c : Bool} (m : c ≡ isNeg (Bits q)) (i : Bits q ≡ q) where
+        sign : isNeg q ≡ c
+        sign = ap isNeg (sym i) ∙ sym m
+
+        pub skip-same : c ≡ false → (z : ℤ) → Skips W s at (SValue z past)
+        skip-same n z = λ prev. (_, _, placed prev ∙ ap (symbolOf W s _ _ _) (sym k ∙ l) ∙ symbol-same W s _ _ _ q past (sign ∙ n))
+
+        pub skip-other : c ≡ true → (x : Signed) → x ≡ readSigned W s past → Skips W s at x
+        skip-other n (SValue z end) o =
+            λ prev. (_, _, placed prev ∙ ap (symbolOf W s _ _ _) (sym k ∙ l) ∙ symbol-other W s _ _ _ q past (sign ∙ n) ∙ addend-is W _ _ _ _ (sym o) refl)
+        skip-other n (SRefused why p) o =
+            λ prev. placed prev ∙ ap (symbolOf W s _ _ _) (sym k ∙ l) ∙ symbol-other W s _ _ _ q past (sign ∙ n) ∙ addend-not W _ _ _ _ (sym o)
+
+pub ruleset skips = (skip-none, skip-type, skip-symbol, skip-same, skip-other, needs)
 
 -- ---- the symbol of a field, in 32 bits
 module _ (f : ℤ) (h : SFits w64 f) (l : mag f < 2 ^ 32) where

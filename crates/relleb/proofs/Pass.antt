@@ -1,7 +1,7 @@
 -- What both passes go by, as the code asks it: x is what the reader of a record returned. A loop has the addend's bits, w.
 -- Assumes nothing.
 use Prim.Native.Nat.{ℕ, _+_, _-_, _*_, _^_, _≤_, _<_}
-use mathlib.Core.Path.{_≡_, refl, ap, sym, _∙_}
+use mathlib.Core.Path.{_≡_, refl, ap, sym, _∙_, subst}
 use mathlib.Core.List.{List, [], _∷_, _++_}
 use native.Mathlib.Omega.{arith}
 use lib.IntN.{ℤ, pos}
@@ -16,6 +16,8 @@ use Rattle.answer.specs.declared.Found.the-variants as found
 use Rattle.answer.specs.Outcome.{Outcome, foundOf}
 use Rattle.answer.specs.Outcome.Laws.{accepted-refused}
 use Rattle.leb128.specs.Number.{readUnsigned}
+use Rattle.leb128.specs.declared.Signed.{Signed}
+use Rattle.leb128.specs.declared.Signed.the-variants.{Value as SValue, Refused as SRefused}
 use Rattle.leb128.specs.declared.Unsigned.{Unsigned}
 use Rattle.leb128.specs.declared.Unsigned.the-variants.{Value as UValue, Refused as URefused}
 use Rattle.records.specs.Columns.{Column}
@@ -25,29 +27,30 @@ use Rattle.records.specs.Reading.Laws.{counted-records, counted-not}
 use Rattle.records.proofs.Reading.{Scanned, scanned-none, scanned-more, scanned-bad, scanned-end, scanned-over, Stored, stored-none, stored-within, stored-more, stored-in, stored-bad, stored-end, count-not}
 use Rattle.relleb.specs.declared.reader.Entry.{Entry}
 use Rattle.relleb.specs.declared.reader.Entry.the-variants.{Record, Refused}
-use Rattle.relleb.specs.Table.{Row, row, state, start, stepAt, decode}
+use Rattle.relleb.specs.Table.{Row, State, row, state, start, stepAt, decode}
 use Rattle.relleb.specs.Table.Laws.{decode-is}
 use Rattle.relleb.specs.Contract.{offsetIn, typeIn, symbolIn, addendIn, Filled}
-use Rattle.relleb.specs.Inner.{entryStep, Fillable}
+use Rattle.relleb.specs.Inner.{entryStep, Fillable, Skips}
 
 -- the records of a table that has so many from a place on
 abbrev pub body : ℕ → List ℕ → ℕ → ℕ → Outcome (List Row)
 body W s n first = records (stepAt W s) (length s) n first start
 
--- ---- the first pass
-pub record Walking (W : ℕ) (s : List ℕ) (n first left at o t w : ℕ) : Type 0 where
-  pub scanned : Scanned (stepAt W s) (length s) (body W s n first) n left at (state o t (toZ w64 w))
+-- ---- the first pass: the records before a place led to some sums
+pub record Walking (W : ℕ) (s : List ℕ) (n first left at : ℕ) : Type 0 where
+  pub prev : State
+  pub scanned : Scanned (stepAt W s) (length s) (body W s n first) n left at prev
 
-pub walk-begin : (W : ℕ) (s : List ℕ) (n first : ℕ) → Walking W s n first n first 0 0 0
-walk-begin W s n first = record { scanned = scanned-none (stepAt W s) (length s) n first start }
+pub walk-begin : (W : ℕ) (s : List ℕ) (n first : ℕ) → Walking W s n first n first
+walk-begin W s n first = record { prev = start; scanned = scanned-none (stepAt W s) (length s) n first start }
 
-module _ {W : ℕ} {s : List ℕ} {n first left at o t w : ℕ} (i : Walking W s n first left at o t w) where
-  module _ {x : Entry} (h : 0 < left) (e : entryStep x ≡ stepAt W s at (state o t (toZ w64 w))) where
-    pub walk-more : {o′ t′ y past : ℕ} {a : ℤ} → x ≡ Record o′ t′ y a past → toZ w64 (ofZ w64 a) ≡ a → Walking W s n first (left - 1) past o′ t′ (ofZ w64 a)
-    walk-more f b = record { scanned = rw b (scanned-more (i .scanned) h (sym e ∙ ap entryStep f)) }
+module _ {W : ℕ} {s : List ℕ} {n first left at : ℕ} (i : Walking W s n first left at) where
+  module _ (x : Signed) (h : 0 < left) (e : Skips W s at x) where
+    pub walk-more : {z : ℤ} {past : ℕ} → x ≡ SValue z past → Walking W s n first (left - 1) past
+    walk-more f = let (y, next, g) = subst (Skips W s at) f e (i .prev) in record { prev = next; scanned = scanned-more (i .scanned) h g }
 
-    pub walk-bad : {why : Refusal} {p : ℕ} → x ≡ Refused why p → found.Refused why p ≡ foundOf (body W s n first)
-    walk-bad f = scanned-bad (i .scanned) h (sym e ∙ ap entryStep f)
+    pub walk-bad : {why : Refusal} {p : ℕ} → x ≡ SRefused why p → found.Refused why p ≡ foundOf (body W s n first)
+    walk-bad f = scanned-bad (i .scanned) h (subst (Skips W s at) f e (i .prev))
 
   pub walk-end : left ≤ 0 → length s ≤ at → found.Count n ≡ foundOf (body W s n first)
   walk-end h k = scanned-end (i .scanned) h k

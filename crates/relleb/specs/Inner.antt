@@ -18,7 +18,7 @@ use Rattle.relleb.specs.declared.reader.Entry.{Entry}
 use Rattle.relleb.specs.declared.reader.Entry.the-variants.{Record, Refused}
 use Rattle.relleb.specs.declared.writer.Fields.{Fields}
 use Rattle.relleb.specs.declared.writer.Fields.the-variants.{Numbers, Refused as NoFields}
-use Rattle.relleb.specs.Table.{Row, row, State, state, fieldBytes}
+use Rattle.relleb.specs.Table.{Row, row, State, state, fieldBytes, stepAt}
 use Rattle.relleb.specs.Contract.{Same}
 
 -- an accepted list for which the columns have room
@@ -54,3 +54,13 @@ entryWithout (SValue z next) = Refused Width next
 abbrev pub entryWithoutOffset : Unsigned → Entry
 entryWithoutOffset (URefused why p) = Refused why p
 entryWithoutOffset (UValue n next) = Refused Width next
+
+-- the refusal of an unsigned number as a signed one's. (A value is never asked.)
+abbrev pub signedWithout : Unsigned → Signed
+signedWithout (URefused why p) = SRefused why p
+signedWithout (UValue n next) = SRefused Width next
+
+-- what the numbers at a place are, whatever record stands before: a record that ends where the last of them does, or a refusal
+abbrev pub Skips : ℕ → List ℕ → ℕ → Signed → Type 0
+Skips W s at (SValue z past) = (prev : State) → (x : Row) × (next : State) × (stepAt W s at prev ≡ one x past next)
+Skips W s at (SRefused why p) = (prev : State) → stepAt W s at prev ≡ none why p

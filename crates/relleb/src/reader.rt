@@ -8,7 +8,7 @@ ghost use Rattle.leb128.specs.Number.{IsWidth, readSigned};
 ghost use Rattle.records.specs.Reading.{records};
 ghost use Rattle.relleb.specs.Table.{state, start, addendOf, symbolOf, typeOf, stepAt, decode};
 ghost use Rattle.relleb.specs.Contract.{Filled};
-ghost use Rattle.relleb.specs.Inner.{entryStep, entryWithout, entryWithoutOffset, Fillable};
+ghost use Rattle.relleb.specs.Inner.{entryStep, entryWithout, entryWithoutOffset, Fillable, signedWithout, Skips};
 use answer::Found;
 use answer::Refusal;
 use leb128::Signed;
@@ -133,25 +133,52 @@ fn entry_at(s: &[u8], at: usize, width: u32, offset: u64, kind: u32, addend: i64
     )
 }
 
-// The first pass over so many records from a place on: their count, or the refusal.
+// The refusal of the offset's number, as a signed one's.
+fn unread(number: Unsigned) -> Signed
+    ensures { λ r. ⌜ r ≡ signedWithout number ⌝ }
+{
+    match number {
+        Unsigned::Refused(why, place) => Signed::Refused(why, place),
+        Unsigned::Value(_, next) => Signed::Refused(Refusal::Width, next),
+    }
+}
+
+// The last number of the record at a place, whose next place is past the record, or the refusal of any.
+fn skip_at(s: &[u8], at: usize, width: u32) -> Signed
+    requires { ⌜ IsWidth width ⌝ }
+    ensures { λ r. ⌜ Skips width (now (s .entry)) at r ⌝ }
+{
+    let first = leb128::read_unsigned(s, at, width);
+    let Unsigned::Value(_, next) = first else {
+        return unread(first);
+    };
+    let second = leb128::read_signed(s, next, 32);
+    let Signed::Value(_, third_at) = second else {
+        return second;
+    };
+    let third = leb128::read_signed(s, third_at, 33);
+    let Signed::Value(field, past) = third else {
+        return third;
+    };
+    if leb128::is_negative(field) {
+        return leb128::read_signed(s, past, width);
+    }
+    Signed::Value(field, past)
+}
+
+// The first pass over so many records from a place on: their count, or the refusal. It needs no sums: none is refused.
 fn walk(s: &[u8], width: u32, count: u64, first: usize) -> Found
     requires { ⌜ IsWidth width ⌝ }
     ensures { λ r. ⌜ r ≡ foundOf (records (stepAt width (now (s .entry))) (length (now (s .entry))) count first start) ⌝ }
 {
     let mut left = count;
     let mut at = first;
-    let mut offset: u64 = 0;
-    let mut kind: u32 = 0;
-    let mut addend: i64 = 0;
     while 0 < left {
-        match entry_at(s, at, width, offset, kind, addend) {
-            Entry::Refused(why, place) => {
+        match skip_at(s, at, width) {
+            Signed::Refused(why, place) => {
                 return Found::Refused(why, place as u64);
             }
-            Entry::Record(o, t, _, a, past) => {
-                offset = o;
-                kind = t;
-                addend = a;
+            Signed::Value(_, past) => {
                 at = past;
                 left -= 1;
             }

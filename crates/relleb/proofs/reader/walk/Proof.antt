@@ -3,51 +3,51 @@ use Rattle.relleb.proofs.reader.walk.Statement.{statement}
 use Rattle.relleb.proofs.reader.walk.Tie as tie
 use Rattle.relleb.proofs.reader.walk.Reads as reads
 use Rattle.relleb.proofs.reader.walk.Lts as lts
-use Rattle.relleb.proofs.reader.entry_at.Reads as entry-at-reads
+use Rattle.relleb.proofs.reader.skip_at.Reads as skip-at-reads
 
 abbrev Inv-loop : tie.InvT-loop
-Inv-loop s width count first left₀ at₀ offset₀ kind₀ addend₀ left at offset kind addend = Walking width s count first left at offset kind addend
+Inv-loop s width count first left₀ at₀ left at = Walking width s count first left at
 
 abbrev μ-loop : tie.MeasureT-loop
-μ-loop s width count first left₀ at₀ offset₀ kind₀ addend₀ left at offset kind addend = left
+μ-loop s width count first left₀ at₀ left at = left
 
--- src/reader.rt:115:5
+-- src/reader.rt:176:5
 loop-holds : tie.Need-loop-holds Inv-loop μ-loop
 loop-holds c = search walks
 
--- src/reader.rt:116:15
-entry-at-requires : tie.Need-entry-at-requires Inv-loop μ-loop
-entry-at-requires c κs = search walks
+-- src/reader.rt:177:15
+skip-at-requires : tie.Need-skip-at-requires Inv-loop μ-loop
+skip-at-requires c κs = search walks
 
--- src/reader.rt:117:28
+-- src/reader.rt:178:29
 enum-known-why : tie.Need-enum-known-why Inv-loop μ-loop
 enum-known-why c = search walks
 
--- src/reader.rt:118:17
+-- src/reader.rt:179:17
 returns : tie.Need-returns Inv-loop μ-loop
 returns c = search walks
 
--- src/reader.rt:120:27
-enum-known-o : tie.Need-enum-known-o Inv-loop μ-loop
-enum-known-o c = search walks
+-- src/reader.rt:181:30
+enum-known-past : tie.Need-enum-known-past Inv-loop μ-loop
+enum-known-past c = search walks
 
--- src/reader.rt:125:17
+-- src/reader.rt:183:17
 sub-left : tie.Need-sub-left Inv-loop μ-loop
 sub-left c = search walks
 
--- src/reader.rt:115:5
+-- src/reader.rt:176:5
 loop-less : tie.Need-loop-less Inv-loop μ-loop
 loop-less c = search walks
 
--- src/reader.rt:115:5
+-- src/reader.rt:176:5
 loop-again : tie.Need-loop-again Inv-loop μ-loop
 loop-again c = search walks
 
--- src/reader.rt:130:9
+-- src/reader.rt:188:9
 returns-2 : tie.Need-returns-2 Inv-loop μ-loop
 returns-2 c = search walks
 
--- src/reader.rt:106:1
+-- src/reader.rt:170:1
 returns-3 : tie.Need-returns-3 Inv-loop μ-loop
 returns-3 c = search walks
 
@@ -58,10 +58,10 @@ walk-spec =
     Inv-loop
     μ-loop
     loop-holds
-    entry-at-requires
+    skip-at-requires
     enum-known-why
     returns
-    enum-known-o
+    enum-known-past
     sub-left
     loop-less
     loop-again
