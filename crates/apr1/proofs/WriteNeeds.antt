@@ -134,6 +134,23 @@ module _ (c d : ℕ) where
 
 pub ruleset lengths = (len-sum, len-pair, len-first, len-head, pair-room, pair-room-2, pair-done, head-room, head-room-2, head-done, needs)
 
+-- ---- a run of k more equal gaps, which either pass counts
+module _ {l : List ℕ} {from y d k : ℕ} (r : Run l from y d k) where
+  pub run-count : length l ≤ listLimit → Fits w64 (k + 1)
+  run-count h = record { fits = omega (arith, r .within) }
+
+  pub run-product : Fits w64 (k * d)
+  run-product = record { fits = omega (arith, r .low) }
+
+  pub run-reach : Fits w64 (y + k * d)
+  run-reach = record { fits = omega (arith, r .low) }
+
+  pub run-index : length l < 2 ^ 64 → Fits w64 (from + k)
+  run-index h = record { fits = omega (arith, r .within) }
+
+pub run-less : (l : List ℕ) (i k : ℕ) → i < length l → length l - (i + 1 + k) < length l - i
+run-less l i k h = omega arith
+
 -- ---- the first pass
 pub record Sizing (l : List ℕ) (a i x n b : ℕ) : Type 0 where
   pub head : a ≡ headIn l
@@ -187,23 +204,8 @@ module _ {l : List ℕ} {a i x n b : ℕ} (s : Sizable l) (g : Sizing l a i x n 
       size-countable = record { within = omega arith; low = low; step = omega arith }
 
       module _ {k : ℕ} (r : Run l (i + 1) y (y - x) k) where
-        pub size-count : Fits w64 (k + 1)
-        size-count = record { fits = omega (arith, r .within, s .few) }
-
-        pub size-product : Fits w64 (k * (y - x))
-        size-product = record { fits = omega (arith, r .low) }
-
-        pub size-reach : Fits w64 (y + k * (y - x))
-        size-reach = record { fits = omega (arith, r .low) }
-
-        pub size-index : length l < 2 ^ 64 → Fits w64 (i + 1 + k)
-        size-index m = record { fits = omega (arith, r .within) }
-
         pub size-pairs : Fits w64 (n + 1)
         size-pairs = record { fits = omega (arith, g .few, s .few) }
-
-        pub size-less : length l - (i + 1 + k) < length l - i
-        size-less = omega arith
 
         module _ {q : ℕ} (qe : q ≡ length (onePair (pair (k + 1) (y - x)))) where
           most : q ≤ 20
@@ -257,7 +259,7 @@ module _ {l : List ℕ} {a i x n b : ℕ} (s : Sizable l) (g : Sizing l a i x n 
           g .rises none,
         )
 
-pub ruleset sizes = (size-far, size-begin, size-space, size-order, size-countable, size-count, size-product, size-reach, size-index, size-pairs, size-less, size-bytes, size-more, size-total, size-end, needs)
+pub ruleset sizes = (size-far, size-begin, size-space, size-order, size-countable, run-count, run-product, run-reach, run-index, size-pairs, run-less, size-bytes, size-more, size-total, size-end, needs)
 
 -- ---- the second pass
 pub record Putting (l old now : List ℕ) (first i x at : ℕ) : Type 0 where
@@ -297,21 +299,6 @@ module _ {l old : List ℕ} {first : ℕ} (f : Puttable l old first) where
       put-countable = record { within = omega arith; low = rest .1; step = omega (arith, rest .1) }
 
       module _ {k : ℕ} (r : Run l (i + 1) y (y - x) k) where
-        pub put-count : Fits w64 (k + 1)
-        put-count = record { fits = omega (arith, r .within, f .few) }
-
-        pub put-product : Fits w64 (k * (y - x))
-        put-product = record { fits = omega (arith, r .low) }
-
-        pub put-reach : Fits w64 (y + k * (y - x))
-        put-reach = record { fits = omega (arith, r .low) }
-
-        pub put-index : length l < 2 ^ 64 → Fits w64 (i + 1 + k)
-        put-index m = record { fits = omega (arith, r .within) }
-
-        pub put-less : length l - (i + 1 + k) < length l - i
-        put-less = omega arith
-
         further : Rising (y + k * (y - x) + 1) (drop (i + 1 + k) l)
         further = rising-rest l (i + 1) y (y - x) k (omega (arith, rest .0)) r (subst (λ (n : ℕ). Rising n (drop (i + 1) l)) (sym (add-one y)) (rest .2))
 
@@ -352,7 +339,7 @@ module _ {l old : List ℕ} {first : ℕ} (f : Puttable l old first) where
         let e : pairsIn l ≡ g .ps = g .so ∙ rw (drop-of-length-le l h) (append-nil (g .ps)) in
         rw e (g .written .list)
 
-pub ruleset puttings = (put-begin, put-long, put-up, put-countable, put-count, put-product, put-reach, put-index, put-less, put-room, put-more, put-end, needs)
+pub ruleset puttings = (put-begin, put-long, put-up, put-countable, run-count, run-product, run-reach, run-index, run-less, put-room, put-more, put-end, needs)
 
 -- ---- the head, and then the pairs
 module _ (l old : List ℕ) (n : ℕ) (f : Encodable l old n) where
