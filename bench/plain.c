@@ -99,31 +99,31 @@ BODY size_t relr_write(uint32_t class_, const uint64_t *offsets, size_t count, u
     return (size_t)(at - table);
 }
 
-/* Reads an unsigned number and steps over it. */
-static inline uint64_t read_unsigned(const uint8_t **at) {
+/* Reads the digits of a number, steps over them and tells how many bits they have. */
+static inline uint64_t read_digits(const uint8_t **at, unsigned *bits) {
     uint64_t value = 0;
-    unsigned shift = 0;
     uint8_t byte;
+    *bits = 0;
     do {
         byte = *(*at)++;
-        value |= (uint64_t)(byte & 0x7F) << shift;
-        shift += 7;
+        value |= (uint64_t)(byte & 0x7F) << *bits;
+        *bits += 7;
     } while (byte & 0x80);
     return value;
 }
 
+/* Reads an unsigned number and steps over it. */
+static inline uint64_t read_unsigned(const uint8_t **at) {
+    unsigned bits;
+    return read_digits(at, &bits);
+}
+
 /* Reads a signed number and steps over it. */
 static inline int64_t read_signed(const uint8_t **at) {
-    uint64_t value = 0;
-    unsigned shift = 0;
-    uint8_t byte;
-    do {
-        byte = *(*at)++;
-        value |= (uint64_t)(byte & 0x7F) << shift;
-        shift += 7;
-    } while (byte & 0x80);
-    if (shift < 64 && (byte & 0x40))
-        value |= ~(uint64_t)0 << shift;
+    unsigned bits;
+    uint64_t value = read_digits(at, &bits);
+    if (bits < 64 && (value >> (bits - 1) & 1))
+        value |= ~(uint64_t)0 << bits;
     return (int64_t)value;
 }
 

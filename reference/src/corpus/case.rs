@@ -179,16 +179,15 @@ impl Case {
         out.extend(self.class.to_le_bytes());
         out.extend(self.base.to_le_bytes());
         put_u32(self.input.len(), out);
-        let mut given = self.input.clone();
-        put_given(&given, long, out);
+        put_given(&self.input, long, out);
         put_u32(self.offsets.len(), out);
         put_u32(self.types.len(), out);
         put_u32(self.symbols.len(), out);
         put_u32(self.addends.len(), out);
         if is_write(self.call) {
-            given.clear();
-            self.put_columns(&mut given);
-            put_given(&given, long, out);
+            let mut columns = Vec::new();
+            self.put_columns(&mut columns);
+            put_given(&columns, long, out);
         }
         put_u32(self.bytes.len(), out);
         if self.call == RELR_APPLY {

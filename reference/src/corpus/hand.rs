@@ -31,7 +31,12 @@ pub fn rooms(name: &str, need: usize, made: impl Fn(usize) -> Case) -> Vec<Hand>
 
 /// The hand-made cases as cases of the corpus.
 pub fn cases() -> Vec<Named> {
-    all().into_iter().map(|hand| Named { name: hand.name, case: hand.case }).collect()
+    named(all())
+}
+
+/// Cases without their answers.
+pub fn named(hands: Vec<Hand>) -> Vec<Named> {
+    hands.into_iter().map(|hand| Named { name: hand.name, case: hand.case }).collect()
 }
 
 pub fn all() -> Vec<Hand> {

@@ -6,14 +6,14 @@ use super::case::{
     APA1_READ, APA1_WRITE, APR1_READ, APR1_WRITE, Case, RELLEB_READ, RELLEB_WRITE, RELR_READ,
     RELR_WRITE,
 };
-use super::hand::{Hand, hand};
+use super::hand::{Hand, hand, named};
 use crate::{MOST_INPUT, MOST_LIST};
 
 const LIMIT: (u32, u64, u64) = (2, 0, 0);
 
 /// The cases of `all`.
 pub fn cases() -> Vec<Named> {
-    all().into_iter().map(|hand| Named { name: hand.name, case: hand.case }).collect()
+    named(all())
 }
 
 /// Each call with the answer at the limit; one over it is refusal 2.
