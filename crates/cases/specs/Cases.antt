@@ -10,9 +10,9 @@ use Rattle.word.specs.declared.Class.the-variants.{Four, Eight}
 use Rattle.word.specs.declared.Named.the-variants.{Is}
 use Rattle.word.specs.Class.{bytesOf}
 use Rattle.word.specs.Word.{valueOf, bytesIn, wordAt, withWord, firstWords, wordsOf, bytesOfWords}
-use Rattle.relr.specs.Words as relr
-use Rattle.relr.specs.Table.{decode, checked, encode, leading, within, targets, added, patched}
-use Rattle.relr.specs.Contract.{changed, imageAfter}
+use Rattle.relr_table.specs.Words as relr
+use Rattle.relr_table.specs.Table.{decode, checked, encode, leading, within, targets, added, patched}
+use Rattle.relr_table.specs.Contract.{changed, imageAfter}
 use Rattle.leb128.specs.Number.{raw, readUnsigned, signed, readSigned, short, shortBy, shortUnsigned, shortSigned}
 use Rattle.leb128.specs.declared.Unsigned.the-variants.{Value as UValue}
 use Rattle.leb128.specs.declared.Signed.the-variants.{Value as SValue}

@@ -7,9 +7,9 @@ use Rattle.records.specs.Identifier as identifier
 use Rattle.records.specs.Reading as reading
 use Rattle.wrap.specs.Wrap as wrap
 use Rattle.word.specs.Word as word
-use Rattle.relr.specs.Words as words
-use Rattle.relr.specs.Table as relr
-use Rattle.relr.specs.Contract as relr-contract
+use Rattle.relr_table.specs.Words as words
+use Rattle.relr_table.specs.Table as relr
+use Rattle.relr_table.specs.Contract as relr-contract
 use Rattle.apr1.specs.Table as apr1
 use Rattle.apr1.specs.Contract as apr1-contract
 use Rattle.apa1.specs.Table as apa1

@@ -16,7 +16,7 @@ use Rattle.answer.specs.Outcome.{Outcome, accepted, pick, success, answerIn, fi
 use Rattle.answer.specs.Outcome.Laws.{filled-fits, answer-zero, Succeeded}
 use Rattle.records.specs.Identifier.{startsWith}
 use Rattle.records.specs.Identifier.Laws.{starts-short}
-use Rattle.relr.specs.Contract as relr
+use Rattle.relr_table.specs.Contract as relr
 use Rattle.apr1.specs.Contract as apr1
 use Rattle.apa1.specs.Table as apa1
 use Rattle.apa1.specs.Contract as apa1-contract

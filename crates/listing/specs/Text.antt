@@ -9,7 +9,7 @@ use lib.ListN.{length, drop, getD}
 use Rattle.answer.specs.declared.Refusal.the-variants.{Class, Limit, Room}
 use Rattle.answer.specs.Outcome.{numberOf, Outcome, accepted, refused, pick}
 use Rattle.records.specs.Identifier.{startsWith}
-use Rattle.relr.specs.Contract as relr
+use Rattle.relr_table.specs.Contract as relr
 use Rattle.apr1.specs.Contract as apr1
 use Rattle.apa1.specs.Table as apa1
 use Rattle.relleb.specs.Table as relleb

@@ -1,17 +1,9 @@
 // RELR tables: read, written and applied.
-ghost use Rattle.relr.specs.Contract.{Reads, Writes, Applies};
+ghost use Rattle.relr_table.specs.Contract.{Reads, Writes, Applies};
 use answer::Answer;
 use answer::Refusal;
 use word::Class;
 use word::Named;
-
-mod applier;
-pub mod cursor;
-mod packer;
-mod place;
-mod reader;
-mod walk;
-mod writer;
 
 // Reads the offsets of a table into a column.
 pub fn read(class: u32, table: &[u8], offsets: &mut [u64]) -> Answer
@@ -21,7 +13,7 @@ pub fn read(class: u32, table: &[u8], offsets: &mut [u64]) -> Answer
     let Named::Is(k) = named else {
         return answer::refuse(Refusal::Class, 0);
     };
-    reader::read_class(k, table, offsets)
+    relr_read::read_class(k, table, offsets)
 }
 
 // Writes the least table for a list of offsets.
@@ -32,7 +24,7 @@ pub fn write(class: u32, offsets: &[u64], table: &mut [u8]) -> Answer
     let Named::Is(k) = named else {
         return answer::refuse(Refusal::Class, 0);
     };
-    writer::write_class(k, offsets, table)
+    relr_write::write_class(k, offsets, table)
 }
 
 // Adds the base to the image's word at each offset of a table.
@@ -43,5 +35,5 @@ pub fn apply(class: u32, table: &[u8], base: u64, image: &mut [u8]) -> Answer
     let Named::Is(k) = named else {
         return answer::refuse(Refusal::Class, 0);
     };
-    applier::apply_class(k, table, base, image)
+    relr_apply::apply_class(k, table, base, image)
 }

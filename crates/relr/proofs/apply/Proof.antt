@@ -1,11 +1,11 @@
-use Rattle.relr.proofs.ApplyNeeds.{applies}
+use Rattle.relr_apply.proofs.ApplyNeeds.{applies}
 use borrow.Author.Needs.{needs}
 use Rattle.relr.proofs.apply.Statement.{statement}
 use Rattle.relr.proofs.apply.Tie as tie
 use Rattle.relr.proofs.apply.Reads as reads
 use Rattle.relr.proofs.apply.Lts as lts
 use Rattle.answer.proofs.refuse.Reads as refuse-reads
-use Rattle.relr.proofs.applier.apply_class.Reads as apply-class-reads
+use Rattle.relr_apply.proofs.apply_class.Reads as apply-class-reads
 use Rattle.word.proofs.Class.named.Reads as named-reads
 
 -- src/lib.rt:28:9

@@ -1,11 +1,11 @@
-use Rattle.relr.proofs.ReadNeeds.{reads}
+use Rattle.relr_read.proofs.ReadNeeds.{reads}
 use borrow.Author.Needs.{needs}
 use Rattle.relr.proofs.read.Statement.{statement}
 use Rattle.relr.proofs.read.Tie as tie
 use Rattle.relr.proofs.read.Reads as reads
 use Rattle.relr.proofs.read.Lts as lts
 use Rattle.answer.proofs.refuse.Reads as refuse-reads
-use Rattle.relr.proofs.reader.read_class.Reads as read-class-reads
+use Rattle.relr_read.proofs.read_class.Reads as read-class-reads
 use Rattle.word.proofs.Class.named.Reads as named-reads
 
 -- src/lib.rt:15:9

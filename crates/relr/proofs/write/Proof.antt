@@ -1,11 +1,11 @@
-use Rattle.relr.proofs.Least.{leasts}
+use Rattle.relr_write.proofs.Least.{leasts}
 use borrow.Author.Needs.{needs}
 use Rattle.relr.proofs.write.Statement.{statement}
 use Rattle.relr.proofs.write.Tie as tie
 use Rattle.relr.proofs.write.Reads as reads
 use Rattle.relr.proofs.write.Lts as lts
 use Rattle.answer.proofs.refuse.Reads as refuse-reads
-use Rattle.relr.proofs.writer.write_class.Reads as write-class-reads
+use Rattle.relr_write.proofs.write_class.Reads as write-class-reads
 use Rattle.word.proofs.Class.named.Reads as named-reads
 
 -- src/lib.rt:30:9

@@ -1,0 +1,78 @@
+// Reading a table into a column of offsets.
+ghost use Prim.Native.Nat.{_+_};
+ghost use Rattle.relr_table.specs.Contract.{ReadsIn};
+ghost use Rattle.relr_table.specs.Inner.{marksOf, Put};
+ghost use Rattle.relr_read.specs.Inner.{Markable, Fillable, Filled};
+use answer::Answer;
+use answer::Found;
+use relr_table::place;
+use relr_table::place::Opened;
+use word::Class;
+
+pub mod cursor;
+
+// Puts the locations that the bits mark from an offset on into a column, and returns the index after them.
+fn fill_marks(k: Class, column: &mut [u64], at: usize, start: u64, set: u64) -> usize
+    requires { ⌜ Markable k (now column) at start set ⌝ }
+    ensures { λ r. ⌜ Put (now (column .entry)) at (marksOf k set start) r (now (column .exit)) ⌝ }
+{
+    let mut bits = set;
+    let mut d: u64 = 0;
+    let mut i = at;
+    while bits != 0 {
+        if bits % 2 == 1 {
+            column[i] = start + d;
+            i += 1;
+        }
+        bits = bits / 2;
+        d += k.bytes() as u64;
+    }
+    i
+}
+
+// The second pass, over a table that the first accepted.
+fn fill(k: Class, s: &[u8], column: &mut [u64])
+    requires { ⌜ Fillable k (now s) (now column) ⌝ }
+    ensures { λ _. ⌜ Filled k (now (s .entry)) (now (column .entry)) (now (column .exit)) ⌝ }
+{
+    let c = k.bytes() as usize;
+    let mut at: usize = 0;
+    let mut place = place::NOWHERE;
+    let mut i: usize = 0;
+    while at < s.len() {
+        let opened = place::open(k, place, word::load(k, s, at));
+        match opened {
+            Opened::Refused(_) => {
+                return;
+            }
+            Opened::Address(x, next) => {
+                column[i] = x;
+                i += 1;
+                place = next;
+                at += c;
+            }
+            Opened::Marks(start, set, next) => {
+                i = fill_marks(k, &mut *column, i, start, set);
+                place = next;
+                at += c;
+            }
+        }
+    }
+}
+
+// Reading, for a class.
+pub fn read_class(k: Class, table: &[u8], offsets: &mut [u64]) -> Answer
+    ensures { λ r. ⌜ ReadsIn k (now (table .entry)) (now (offsets .entry)) r (now (offsets .exit)) ⌝ }
+{
+    let found = relr_walk::find(k, table, place::last(k) + 1);
+    match found {
+        Found::Refused(why, at) => answer::refuse(why, at),
+        Found::Count(count) => {
+            if (offsets.len() as u64) < count {
+                return answer::short_of(count);
+            }
+            fill(k, table, offsets);
+            answer::accept(count)
+        }
+    }
+}

@@ -1,0 +1,4 @@
+pub mod PackNeeds
+pub mod WriteNeeds
+pub mod PutNeeds
+pub mod Least

@@ -1,0 +1,116 @@
+-- What the inner functions promise.
+-- Assumes nothing.
+use mathlib.Core.Bool.{Bool, true, false, cond}
+use mathlib.Core.List.{List, [], _∷_, _++_}
+use mathlib.Core.Path.{_≡_}
+use Prim.Native.Nat.{ℕ, suc, _+_, _-_, _*_, _^_, _%_, _/_, _≤_, _<_}
+use lib.Dec.{ltb, eqb}
+use lib.ListN.{length}
+use Rattle.answer.specs.declared.Refusal.the-variants.{Order, Space, Odd}
+use Rattle.answer.specs.Outcome.{Outcome, accepted, after}
+use Rattle.word.specs.declared.Class.{Class}
+use Rattle.word.specs.Class.{bytesOf, windowOf}
+use Rattle.word.specs.Word.{bytesOfWords}
+use Rattle.relr_table.specs.Words.{Where, nowhere, from, falls, write, table, Legal}
+use Rattle.relr_write.specs.declared.packer.Location.{Location}
+use Rattle.relr_write.specs.declared.packer.Location.the-variants.{On, Off}
+use Rattle.relr_write.specs.declared.packer.Packed.{Packed}
+use Rattle.relr_write.specs.declared.packer.Packed.the-variants.{Joined, Alone, Flushed, Both}
+use Rattle.relr_write.specs.declared.packer.Pending.{Pending}
+use Rattle.relr_write.specs.declared.Fault.{Fault}
+use Rattle.relr_write.specs.declared.Fault.the-variants.{Clean, Bad}
+use Rattle.relr_table.specs.Table.{spaceOf, checked}
+use Rattle.relr_table.specs.Place.{Place, Stands}
+
+-- whether x falls on a location of the bitmap that starts at *where* w
+abbrev pub fallsAt : Class → Where → ℕ → Bool
+fallsAt k nowhere x = false
+fallsAt k (from v) x = falls (bytesOf k) (windowOf k) v x
+
+-- the location of x in the bitmap at *where* w
+abbrev pub Located : Class → Where → ℕ → Location → Type 0
+Located k w x (On j) = (v : ℕ) × (w ≡ from v) × (falls (bytesOf k) (windowOf k) v x ≡ true) × (j ≡ (x - v) / bytesOf k)
+Located k w x Off = fallsAt k w x ≡ false
+
+-- the same at a place
+abbrev pub LocatedAt : Class → Place → ℕ → Location → Type 0
+LocatedAt k p x r = (w : Where) → Stands k w p → Located k w x r
+
+-- a location is an index below 63
+abbrev pub Small : Location → Type 0
+Small (On j) = j < 63
+Small Off = Unit {0}
+
+-- where the bitmap after the one at a place starts
+abbrev pub ForwardFrom : Class → Place → Place → Type 0
+ForwardFrom k p r = (v : ℕ) → Stands k (from v) p → Stands k (from (v + windowOf k * bytesOf k)) r
+
+-- the words for the offsets l, where the bitmap b that starts at *where* w is pending, or, if b is 0, where the next would start there
+abbrev pub wordsFor : Class → Where → ℕ → List ℕ → List ℕ
+wordsFor k nowhere b l = table (bytesOf k) (windowOf k) l
+wordsFor k (from v) b l = write (bytesOf k) (windowOf k) l v b
+
+-- the bits of a pending bitmap stand below each location that is not below lo
+abbrev pub Bits : Class → ℕ → Where → ℕ → Type 0
+Bits k lo nowhere b = b ≡ 0
+Bits k lo (from v) b = (m : ℕ) × (m ≤ windowOf k) × (b < 2 ^ m) × ((j : ℕ) → lo ≤ v + j * bytesOf k → m ≤ j)
+
+-- what is pending at *where* w, after offsets below lo
+pub record Holding (k : Class) (lo : ℕ) (w : Where) (p : Place) (b : ℕ) : Type 0 where
+  pub stands : Stands k w p
+  pub bits : Bits k lo w b
+
+-- the offset x, after which q is pending, adds the words `out`
+pub record Adds (k : Class) (w : Where) (b x : ℕ) (out : List ℕ) (q : Pending) : Type 0 where
+  pub v : Where
+  pub holding : Holding k (suc x) v (q .place) (q .bits)
+  pub is : (l : List ℕ) → wordsFor k w b (x ∷ l) ≡ out ++ wordsFor k v (q .bits) l
+
+-- the words that a step adds, and what is pending after it
+abbrev pub outOf : ℕ → Packed → List ℕ
+outOf x (Joined q) = []
+outOf x (Alone q) = x ∷ []
+outOf x (Flushed y q) = y ∷ []
+outOf x (Both y q) = y ∷ x ∷ []
+
+abbrev pub afterOf : Packed → Pending
+afterOf (Joined q) = q
+afterOf (Alone q) = q
+afterOf (Flushed y q) = q
+afterOf (Both y q) = q
+
+-- what an offset does
+abbrev pub Adding : Class → Where → ℕ → ℕ → Packed → Type 0
+Adding k w b x r = Adds k w b x (outOf x r) (afterOf r)
+
+-- the same, whatever is pending
+abbrev pub Packs : Class → Pending → ℕ → Packed → Type 0
+Packs k p x r = (w : Where) (lo : ℕ) → Holding k lo w (p .place) (p .bits) → lo ≤ x → Adding k w (p .bits) x r
+
+-- the same of an offset that the pending bitmap does not take
+abbrev pub Flushes : Class → Pending → ℕ → Packed → Type 0
+Flushes k p x r = (w : Where) (lo : ℕ) → Holding k lo w (p .place) (p .bits) → lo ≤ x → fallsAt k w x ≡ false → 0 < p .bits → Adding k w (p .bits) x r
+
+-- what is wrong with an offset of which `least` is the least allowed, as `checked` looks for it
+abbrev pub faultOf : Class → ℕ → ℕ → Fault
+faultOf k x least = cond (eqb (x % 2) 1) (Bad Odd) (cond (ltb (spaceOf k) (x + bytesOf k)) (Bad Space) (cond (ltb x least) (Bad Order) Clean))
+
+-- the words of a bitmap that is pending at the end
+abbrev pub endOf : ℕ → List ℕ
+endOf b = cond (ltb 0 b) ((2 * b + 1) ∷ []) []
+
+-- the bytes of a table, and the outcome of a list that is not too long
+abbrev pub tableBytes : Class → List ℕ → List ℕ
+tableBytes k l = bytesOfWords (bytesOf k) (table (bytesOf k) (windowOf k) l)
+
+unfoldable pub checkedTable : Class → List ℕ → Outcome (List ℕ)
+checkedTable k l = checked (bytesOf k) (spaceOf k) 0 0 l (accepted (tableBytes k l))
+
+-- a list that the first pass accepted, and room for its table
+pub record Encodable (k : Class) (l old : List ℕ) : Type 0 where
+  pub legal : Legal (bytesOf k) (spaceOf k) 0 l
+  pub room : length (tableBytes k l) ≤ length old
+
+-- room for bytes at a place
+abbrev pub Room : ℕ → ℕ → List ℕ → Type 0
+Room at n old = at + n ≤ length old
