@@ -1,5 +1,8 @@
 // Reading a table into a column of offsets.
 ghost use Prim.Native.Nat.{_+_};
+ghost use mathlib.Core.Path.{_≡_};
+ghost use Rattle.answer.specs.Outcome.{foundOf};
+ghost use Rattle.relr_table.specs.Table.{decode};
 ghost use Rattle.relr_table.specs.Contract.{ReadsIn};
 ghost use Rattle.relr_table.specs.Inner.{marksOf, Put};
 ghost use Rattle.relr_read.specs.Inner.{Markable, Fillable, Filled};
@@ -60,19 +63,29 @@ fn fill(k: Class, s: &[u8], column: &mut [u64])
     }
 }
 
+// How many offsets a table has, or its refusal. No offset is past the last one of the space.
+fn count(k: Class, table: &[u8]) -> Found
+    ensures { λ r. ⌜ r ≡ foundOf (decode k (now (table .entry))) ⌝ }
+{
+    match k {
+        Class::Four => relr_walk::find_by(false, table, place::last(Class::Four) + 1),
+        Class::Eight => relr_walk::find_by(true, table, place::last(Class::Eight) + 1),
+    }
+}
+
 // Reading, for a class.
 pub fn read_class(k: Class, table: &[u8], offsets: &mut [u64]) -> Answer
     ensures { λ r. ⌜ ReadsIn k (now (table .entry)) (now (offsets .entry)) r (now (offsets .exit)) ⌝ }
 {
-    let found = relr_walk::find(k, table, place::last(k) + 1);
+    let found = count(k, table);
     match found {
         Found::Refused(why, at) => answer::refuse(why, at),
-        Found::Count(count) => {
-            if (offsets.len() as u64) < count {
-                return answer::short_of(count);
+        Found::Count(n) => {
+            if (offsets.len() as u64) < n {
+                return answer::short_of(n);
             }
             fill(k, table, offsets);
-            answer::accept(count)
+            answer::accept(n)
         }
     }
 }

@@ -1,6 +1,6 @@
 -- What the inner functions promise.
 -- Assumes nothing.
-use mathlib.Core.Bool.{Bool, cond}
+use mathlib.Core.Bool.{Bool, true, false, cond}
 use mathlib.Core.List.{List, _∷_}
 use mathlib.Core.Path.{_≡_}
 use Prim.Native.Nat.{ℕ, _+_, _*_, _^_, _%_, _≤_, _<_}
@@ -10,6 +10,7 @@ use lib.Seq.{sets}
 use Rattle.answer.specs.declared.Refusal.the-variants.{Space}
 use Rattle.answer.specs.Outcome.{Outcome, accepted, refused, after, inputLimit}
 use Rattle.word.specs.declared.Class.{Class}
+use Rattle.word.specs.declared.Class.the-variants.{Four, Eight}
 use Rattle.word.specs.Class.{bytesOf, windowOf}
 use Rattle.word.specs.Word.{wordsOf}
 use Rattle.relr_table.specs.Words.{Where, nowhere, from, marked, fit, read, table}
@@ -17,6 +18,11 @@ use Rattle.relr_table.specs.Table.{spaceOf}
 use Rattle.relr_table.specs.Place.{Place, Stands}
 use Rattle.relr_table.specs.declared.place.Opened.{Opened}
 use Rattle.relr_table.specs.declared.place.Opened.the-variants.{Address, Marks, Refused}
+
+-- the class that a flag names
+abbrev pub flagged : Bool → Class
+flagged true = Eight
+flagged false = Four
 
 -- the offsets of the words t, of which the first stands at byte i
 abbrev pub readOf : Class → List ℕ → ℕ → Where → Outcome (List ℕ)

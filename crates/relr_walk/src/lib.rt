@@ -4,7 +4,7 @@ ghost use Prim.Native.Nat.{_<_};
 ghost use lib.ListN.{length};
 ghost use Rattle.answer.specs.Outcome.{foundOf};
 ghost use Rattle.relr_table.specs.Table.{decode, within};
-ghost use Rattle.relr_table.specs.Inner.{Whole, below, wordsRead};
+ghost use Rattle.relr_table.specs.Inner.{flagged, Whole, below, wordsRead};
 ghost use Rattle.relr_walk.specs.Inner.{grow, surveyed};
 use answer::Found;
 use answer::Refusal;
@@ -85,7 +85,7 @@ pub fn scan(k: Class, s: &[u8], bound: u64) -> Found
 }
 
 // The first pass over any bytes: a length that is refused comes before the walk.
-pub fn find(k: Class, s: &[u8], bound: u64) -> Found
+fn find_in(k: Class, s: &[u8], bound: u64) -> Found
     ensures { λ r. ⌜ r ≡ foundOf (within (below bound) (decode k (now (s .entry)))) ⌝ }
 {
     if answer::INPUT_LIMIT < s.len() {
@@ -94,8 +94,21 @@ pub fn find(k: Class, s: &[u8], bound: u64) -> Found
     if 0 < place::rest(k, s.len() as u64) {
         return Found::Refused(Refusal::Missing, s.len() as u64);
     }
+    scan(k, s, bound)
+}
+
+// The same by a flag for the class and for each class, so that the compiler makes a loop for each.
+pub fn find_by(wide: bool, s: &[u8], bound: u64) -> Found
+    ensures { λ r. ⌜ r ≡ foundOf (within (below bound) (decode (flagged wide) (now (s .entry)))) ⌝ }
+{
+    find_in(place::chosen(wide), s, bound)
+}
+
+pub fn find(k: Class, s: &[u8], bound: u64) -> Found
+    ensures { λ r. ⌜ r ≡ foundOf (within (below bound) (decode k (now (s .entry)))) ⌝ }
+{
     match k {
-        Class::Four => scan(Class::Four, s, bound),
-        Class::Eight => scan(Class::Eight, s, bound),
+        Class::Four => find_by(false, s, bound),
+        Class::Eight => find_by(true, s, bound),
     }
 }

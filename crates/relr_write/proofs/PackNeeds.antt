@@ -1,18 +1,20 @@
 -- The needs of the writer's step, stated as the code asks them.
 -- Assumes nothing.
 use mathlib.Core.Bool.{Bool, true, false, _&&_}
-use mathlib.Core.List.{List, [], _∷_}
+use mathlib.Core.List.{List, [], _∷_, _++_}
 use mathlib.Core.Path.{_≡_, refl, sym, ap, subst, _∙_}
 use Prim.Native.Nat.{ℕ, suc, _+_, _-_, _*_, _/_, _%_, _^_, _≤_, _<_}
-use native.Mathlib.Nat.{zero-add, lt-of-mul-lt-mul-right, div-add-mod'}
+use native.Mathlib.Nat.{lt-of-mul-lt-mul-right, mul-le-mul-left, mul-le-mul-right, div-add-mod'}
 use native.Mathlib.Omega.{arith}
-use lib.Dec.{leb, eqb}
-use lib.Pow.{pow-mono, shl-exact}
+use native.Mathlib.Decide.{decLt, ℕ-discrete}
+use lib.Dec.{leb, ltb, eqb}
+use lib.Pow.{pow-mono, pow-pos, pow-lt, shl-exact}
 use mir.Syntax.{w64}
 use mir.Val.{Fits}
 use borrow.Author.Needs.{needs}
 use borrow.Author.Tests.{ne-eqb, le-ltb}
 use Rattle.word.specs.declared.Class.{Class}
+use Rattle.word.specs.declared.Class.the-variants.{Four, Eight}
 use Rattle.word.specs.Class.{bytesOf, windowOf}
 use Rattle.word.specs.Class.Laws.{bytes-least, bytes-most}
 use Rattle.relr_table.specs.Words.{Where, nowhere, from, falls, bit, word, write, table}
@@ -20,9 +22,9 @@ use Rattle.relr_table.specs.Table.{spaceOf}
 use Rattle.relr_table.specs.Place.{Place, Beyond, Stands, within, unset, past}
 use Rattle.relr_write.specs.declared.packer.Location.{Location}
 use Rattle.relr_write.specs.declared.packer.Location.the-variants.{On, Off}
-use Rattle.relr_write.specs.declared.packer.Packed.{Packed}
-use Rattle.relr_write.specs.declared.packer.Packed.the-variants.{Joined, Alone, Flushed, Both}
-use Rattle.relr_write.specs.Inner.{fallsAt, Located, LocatedAt, Small, ForwardFrom, wordsFor, Bits, Holding, Adds, Adding}
+use Rattle.relr_write.specs.declared.packer.Pending.{Pending}
+use Rattle.relr_write.specs.declared.packer.Packed.the-variants.{Joined, Flushed, Alone}
+use Rattle.relr_write.specs.Inner.{Turned, Near, fallsAt, Located, LocatedAt, Small, ForwardFrom, wordsFor, Bits, Holding, Adds, Precedes, Acts, Packs}
 use Rattle.relr_table.proofs.Marked.{falls-on, on-falls}
 use Rattle.relr_table.proofs.Steps.{falls-low, write-join, write-flush, write-word}
 use Rattle.relr_table.proofs.PlaceNeeds.{stands-within, bitmap-in}
@@ -31,43 +33,100 @@ use Rattle.relr_table.proofs.PlaceNeeds.{stands-within, bitmap-in}
 pub bit-is : {j : ℕ} → j < 63 → 1 * 2 ^ j % 2 ^ 64 ≡ 2 ^ j
 bit-is {j} h = shl-exact 1 j 64 (omega arith) (omega arith) ∙ omega arith
 
+-- ---- a distance in words
+turned-by-four : (d : ℕ) → Turned Four d (d / 4 + d % 4 * 4611686018427387904)
+turned-by-four d = record { whole = λ z. omega arith; part = λ h. omega arith }
+
+turned-by-eight : (d : ℕ) → Turned Eight d (d / 8 + d % 8 * 2305843009213693952)
+turned-by-eight d = record { whole = λ z. omega arith; part = λ h. omega arith }
+
+module _ {k : Class} {d : ℕ} where
+  pub turned-four : k ≡ Four → Turned k d (d / 4 + d % 4 * 4611686018427387904)
+  turned-four e = subst (λ (i : Class). Turned i d (d / 4 + d % 4 * 4611686018427387904)) (sym e) (turned-by-four d)
+
+  pub turned-eight : k ≡ Eight → Turned k d (d / 8 + d % 8 * 2305843009213693952)
+  turned-eight e = subst (λ (i : Class). Turned i d (d / 8 + d % 8 * 2305843009213693952)) (sym e) (turned-by-eight d)
+
+-- the turned distance fits a word
+low-fits : (u m b c : ℕ) → u < b → m < c → c * b ≡ 2 ^ 64 → u + m * b < 2 ^ 64
+low-fits u m b c h g e = omega (arith, mul-le-mul-right b g)
+
+module _ (d : ℕ) (h : d < 2 ^ 64) where
+  pub fits-four : Fits w64 (d / 4 + d % 4 * 4611686018427387904)
+  fits-four = record { fits = low-fits (d / 4) (d % 4) 4611686018427387904 4 (omega arith) (omega arith) refl }
+
+  pub fits-eight : Fits w64 (d / 8 + d % 8 * 2305843009213693952)
+  fits-eight = record { fits = low-fits (d / 8) (d % 8) 2305843009213693952 8 (omega arith) (omega arith) refl }
+
+pub ruleset turning = (turned-four, turned-eight, fits-four, fits-eight, needs)
+
 -- ---- the location of an offset
 and-false : (b : Bool) → (b && false) ≡ false
 and-false true = refl
 and-false false = refl
 
-falls-rest : (c n v x : ℕ) → 0 < (x - v) % c → falls c n v x ≡ false
+falls-rest : (c n v x : ℕ) → ((x - v) % c ≡ 0 → ⊥) → falls c n v x ≡ false
 unfolding falls
-falls-rest c n v x h = rw (ne-eqb ((x - v) % c) 0 (λ z. absurd (omega arith))) (and-false (leb v x))
+falls-rest c n v x h = rw (ne-eqb ((x - v) % c) 0 h) (and-false (leb v x))
 
 falls-far : (c n v x : ℕ) → n ≤ (x - v) / c → falls c n v x ≡ false
 unfolding falls
 falls-far c n v x h = rw (le-ltb ((x - v) / c) n h, and-false (eqb ((x - v) % c) 0)) (and-false (leb v x))
 
+even-whole : (k : Class) (d : ℕ) → d % bytesOf k ≡ 0 → d % 2 ≡ 0
+even-whole Four d h = omega arith
+even-whole Eight d h = omega arith
+
 -- an offset of the space is below each number that is none
-module _ (k : Class) (p : Place) (x : ℕ) (h : x + bytesOf k ≤ spaceOf k) where
-  pub off-low : x < p → LocatedAt k p x Off
-  off-low l w (within e g) = rw e (falls-low (bytesOf k) (windowOf k) p x l)
-  off-low l w (unset e f) = rw e
-  off-low l w (past v e g f) = rw e (falls-low (bytesOf k) (windowOf k) v x (omega arith))
+off-low : (k : Class) (p : Place) (x : ℕ) → x + bytesOf k ≤ spaceOf k → x < p → LocatedAt k p x Off
+off-low k p x h l w (within e g) = rw e (falls-low (bytesOf k) (windowOf k) p x l)
+off-low k p x h l w (unset e f) = rw e
+off-low k p x h l w (past v e g f) = rw e (falls-low (bytesOf k) (windowOf k) v x (omega arith))
 
-  module _ (le : p ≤ x) where
-    inside : p + bytesOf k ≤ spaceOf k
-    inside = omega arith
+-- d is the distance from the place, wrapped, and j that in words
+module _ (k : Class) (p : Place) (x d j n : ℕ) (h : x + bytesOf k ≤ spaceOf k) (de : (d + p) % 2 ^ 64 ≡ x) (tu : Turned k d j) (ne : n ≡ windowOf k) where
+  inside : p ≤ x → p + bytesOf k ≤ spaceOf k
+  inside l = omega arith
 
-    off : falls (bytesOf k) (windowOf k) p x ≡ false → LocatedAt k p x Off
-    off f w s = rw (stands-within inside s) f
+  pub off-at : d < 2 ^ 64 → p < 2 ^ 64 → n ≤ j → LocatedAt k p x Off
+  off-at dl pl far = go (decLt x p)
+    where
+      high : p ≤ x → falls (bytesOf k) (windowOf k) p x ≡ false
+      high l =
+          let e : x - p ≡ d = omega arith in
+          elim (ℕ-discrete (d % bytesOf k) 0) [
+            | yes z ↦ falls-far (bytesOf k) (windowOf k) p x (rw e (omega (arith, tu .whole z)))
+            | no z ↦ falls-rest (bytesOf k) (windowOf k) p x (rw e z)
+          ]
 
-    pub off-rest : (r : ℕ) → r ≡ (x - p) % bytesOf k → 0 < r → LocatedAt k p x Off
-    off-rest r e l = off (falls-rest (bytesOf k) (windowOf k) p x (omega arith))
+      go : Dec (x < p) → LocatedAt k p x Off
+      go (yes l) = off-low k p x h l
+      go (no l) = λ w s. let g : p ≤ x = omega arith in rw (stands-within (inside g) s) (high g)
 
-    pub off-far : (j n : ℕ) → j ≡ (x - p) / bytesOf k → n ≡ windowOf k → n ≤ j → LocatedAt k p x Off
-    off-far j n e f l = off (falls-far (bytesOf k) (windowOf k) p x (omega arith))
+  module _ (even : x % 2 ≡ 0) (near : Near p x) (pl : p < 2 ^ 64) (on : j < n) where
+    whole : d % bytesOf k ≡ 0
+    whole = tu .part (omega arith)
 
-    pub on-at : (r j n : ℕ) → r ≡ (x - p) % bytesOf k → r ≤ 0 → j ≡ (x - p) / bytesOf k → n ≡ windowOf k → j < n → LocatedAt k p x (On j)
-    on-at r j n e z f g l w s =
-        let y : x ≡ p + (x - p) / bytesOf k * bytesOf k = omega (arith, div-add-mod' (x - p) (bytesOf k)) in
-        (p, stands-within inside s, on-falls (bytesOf k) (windowOf k) p x (omega (arith, bytes-least k)) ((x - p) / bytesOf k, omega arith, y), f)
+    steps : d ≡ j * bytesOf k
+    steps = omega (arith, div-add-mod' d (bytesOf k), whole, ap (λ (i : ℕ). i * bytesOf k) (tu .whole whole))
+
+    small : d ≤ 504
+    small = omega (arith, steps, mul-le-mul-left j (bytes-most k), bytes-most k)
+
+    sum : x ≡ d + p
+    sum = go (ℕ-discrete (p % 2) 0)
+      where
+        go : Dec (p % 2 ≡ 0) → x ≡ d + p
+        go (yes z) = omega (arith, near z, small)
+        go (no z) = absurd (omega (arith, even-whole k d whole))
+
+    pub on-at : LocatedAt k p x (On j)
+    on-at w s =
+        let l : p ≤ x = omega (arith, sum) in
+        let e : x - p ≡ d = omega (arith, sum) in
+        let q : (x - p) / bytesOf k ≡ j = rw e (sym (tu .whole whole)) in
+        let y : x ≡ p + (x - p) / bytesOf k * bytesOf k = rw q (omega (arith, sum, steps)) in
+        (p, stands-within (inside l) s, on-falls (bytesOf k) (windowOf k) p x (omega (arith, bytes-least k)) ((x - p) / bytesOf k, rw q (omega arith), y), sym q)
 
 -- ---- the next bitmap; r is the last offset of the space
 module _ (k : Class) (p r : ℕ) (h : r + bytesOf k ≡ spaceOf k) where
@@ -83,6 +142,16 @@ module _ (k : Class) (p r : ℕ) (h : r + bytesOf k ≡ spaceOf k) where
       let z : v ≡ p = cc in
       rw (z, ← f) g
 
+-- ---- places near an offset
+near-from : (k : Class) (v lo : ℕ) (q : Place) → Stands k (from v) q → v ≤ lo + 1024 → Near q lo
+near-from k v lo q (within e g) h = λ z. let f : v ≡ q = cc in omega arith
+near-from k v lo q (unset e f) h = let z : _≡_ {A = ℕ} 0 1 = cc in absurd (omega arith)
+near-from k v lo q (past u e g f) h = λ z. absurd (omega arith)
+
+stride-most : (k : Class) → windowOf k * bytesOf k ≤ 504
+stride-most Four = omega arith
+stride-most Eight = omega arith
+
 -- ---- an offset joins the pending bitmap
 pub window-most : (k : Class) → windowOf k ≤ 63
 window-most k = omega (arith, bytes-most k)
@@ -95,22 +164,27 @@ joined-bits k v lo b x j (m, h, l, f) le fa je =
     let bj : b < 2 ^ j = omega (arith, pow-mono mj) in
     (suc j, omega (arith, o .1), omega arith, λ i g. lt-of-mul-lt-mul-right (bytesOf k) (omega arith))
 
-module _ (k : Class) (p : Place) (b x : ℕ) where
-  join-from : (v lo j r : ℕ) → Holding k lo (from v) p b → lo ≤ x → falls (bytesOf k) (windowOf k) v x ≡ true → j ≡ (x - v) / bytesOf k → r ≡ 2 ^ j
-      → Adds k (from v) b x [] (record { place = p; bits = b + r })
+module _ (k : Class) (p : Pending) (x : ℕ) where
+  join-from : (v lo j r : ℕ) → Holding k lo (from v) (p .place) (p .bits) → lo ≤ x → falls (bytesOf k) (windowOf k) v x ≡ true → j ≡ (x - v) / bytesOf k → r ≡ 2 ^ j
+      → Adds k (from v) (p .bits) x [] (record { place = p .place; bits = p .bits + r })
   unfolding bit
   join-from v lo j r h l f je re =
       record {
         v = from v;
-        holding = record { stands = h .stands; bits = rw re (joined-bits k v lo b x j (h .bits) l f je) };
-        is = λ m. write-join (bytesOf k) (windowOf k) x m v b f ∙ rw (re, je);
+        holding = record { stands = h .stands; near = λ e. omega (arith, h .near e); bits = rw re (joined-bits k v lo (p .bits) x j (h .bits) l f je) };
+        is = λ m. write-join (bytesOf k) (windowOf k) x m v (p .bits) f ∙ rw (re, je);
       }
 
-  pub join-is : (j r : ℕ) → LocatedAt k p x (On j) → r ≡ 2 ^ j → (w : Where) (lo : ℕ) → Holding k lo w p b → lo ≤ x → Adding k w b x (Joined (record { place = p; bits = b + r }))
-  join-is j r o re w lo h l =
+  join-acts : (j r : ℕ) → LocatedAt k (p .place) x (On j) → r ≡ 2 ^ j → (w : Where) (lo : ℕ) → Holding k lo w (p .place) (p .bits) → lo ≤ x
+      → Acts k lo w p x (Joined (record { place = p .place; bits = p .bits + r }))
+  join-acts j r o re w lo h l =
       let (v, e, f, je) = o w (h .stands) in
-      subst (λ (u : Where). Adds k u b x [] (record { place = p; bits = b + r })) (sym e)
-      (join-from v lo j r (subst (λ (u : Where). Holding k lo u p b) e h) l f je re)
+      let some : 0 < p .bits + r = omega (arith, pow-pos j) in (
+        refl,
+        some,
+        subst (λ (u : Where). Adds k u (p .bits) x [] (record { place = p .place; bits = p .bits + r })) (sym e)
+            (join-from v lo j r (subst (λ (u : Where). Holding k lo u (p .place) (p .bits)) e h) l f je re),
+      )
 
 -- ---- an offset is written itself
 alone-bits : (k : Class) (x : ℕ) → Bits k (suc x) (from (x + bytesOf k)) 0
@@ -121,72 +195,68 @@ unfolding table
 alone-words k nowhere x l e = refl
 alone-words k (from v) x l e = write-word (bytesOf k) (windowOf k) x l v e
 
-pub alone-is : (k : Class) (p q : Place) (b c x : ℕ) → LocatedAt k p x Off → b ≤ 0 → c ≡ bytesOf k → Stands k (from (x + c)) q → (w : Where) (lo : ℕ) → Holding k lo w p b → lo ≤ x
-    → Adding k w b x (Alone (record { place = q; bits = 0 }))
-alone-is k p q b c x o z ce s w lo h l =
-    let be : b ≡ 0 = omega arith in
-    record {
-      v = from (x + bytesOf k);
-      holding = record { stands = rw ce at s; bits = alone-bits k x };
-      is = λ m. rw be (alone-words k w x m (o w (h .stands)));
-    }
+alone-acts : (k : Class) (p : Pending) (q : Place) (c x : ℕ) → LocatedAt k (p .place) x Off → p .bits ≤ 0 → c ≡ bytesOf k → Stands k (from (x + c)) q → (w : Where) (lo : ℕ)
+    → Holding k lo w (p .place) (p .bits) → lo ≤ x → Acts k lo w p x (Alone (record { place = q; bits = 0 }))
+alone-acts k p q c x o z ce s w lo h l =
+    let be : p .bits ≡ 0 = omega arith in (
+      be,
+      refl,
+      record {
+        v = from (x + bytesOf k);
+        holding = record { stands = rw ce at s; near = near-from k (x + c) (suc x) q s (omega (arith, bytes-most k)); bits = alone-bits k x };
+        is = λ m. rw be (alone-words k w x m (o w (h .stands)));
+      },
+    )
 
 -- ---- the pending bitmap is written first
-module _ (k : Class) (p : Place) (b x : ℕ) (pos : 0 < b) where
-  some-from : (w : Where) (lo : ℕ) → Bits k lo w b → (v : ℕ) × (w ≡ from v)
+module _ (k : Class) (p : Pending) (x : ℕ) (pos : 0 < p .bits) where
+  some-from : (w : Where) (lo : ℕ) → Bits k lo w (p .bits) → (v : ℕ) × (w ≡ from v)
   some-from nowhere lo e = absurd (omega arith)
   some-from (from v) lo e = (v, refl)
 
+  -- a bitmap with a bit starts below the offsets to come
+  starts-low : (v lo : ℕ) → Bits k lo (from v) (p .bits) → v < lo
+  starts-low v lo (m, h, l, f) = elim (decLt v lo) [ yes q ↦ q | no q ↦ absurd (none (omega (arith, f 0 (omega arith)))) ]
+    where
+      none : m ≡ 0 → ⊥
+      none e = let g = rw e at l in omega arith
+
   flushed-words : (v : ℕ) (l : List ℕ) → falls (bytesOf k) (windowOf k) v x ≡ false
-      → write (bytesOf k) (windowOf k) (x ∷ l) v b ≡ (2 * b + 1) ∷ write (bytesOf k) (windowOf k) (x ∷ l) (v + windowOf k * bytesOf k) 0
+      → write (bytesOf k) (windowOf k) (x ∷ l) v (p .bits) ≡ (2 * p .bits + 1) ∷ write (bytesOf k) (windowOf k) (x ∷ l) (v + windowOf k * bytesOf k) 0
   unfolding word
-  flushed-words v l e = write-flush (bytesOf k) (windowOf k) x l v b pos e
+  flushed-words v l e = write-flush (bytesOf k) (windowOf k) x l v (p .bits) pos e
 
-  module _ (next : Place) (fw : ForwardFrom k p next) where
-    open-from : (v lo j r : ℕ) → Holding k lo (from v) p b → lo ≤ x → falls (bytesOf k) (windowOf k) v x ≡ false → LocatedAt k next x (On j) → r ≡ 2 ^ j
-        → Adding k (from v) b x (Flushed (2 * b + 1) (record { place = next; bits = r }))
-    unfolding bit
-    open-from v lo j r h l f o re =
+  module _ (next : Place) (fw : ForwardFrom k (p .place) next) where
+    flush-from : (v lo : ℕ) → Holding k lo (from v) (p .place) (p .bits) → falls (bytesOf k) (windowOf k) v x ≡ false
+        → Precedes k lo (from v) (p .bits) x (2 * p .bits + 1) (record { place = next; bits = 0 })
+    flush-from v lo h f =
         let st = fw v (h .stands) in
-        let (u, e, g, je) = o (from (v + windowOf k * bytesOf k)) st in
-        let ue : u ≡ v + windowOf k * bytesOf k = cc in
-        let g′ : falls (bytesOf k) (windowOf k) (v + windowOf k * bytesOf k) x ≡ true = rw ue at g in
-        let je′ : j ≡ (x - (v + windowOf k * bytesOf k)) / bytesOf k = rw ue at je in
-        let bs : Bits k (suc x) (from (v + windowOf k * bytesOf k)) (0 + 2 ^ j) =
-        joined-bits k (v + windowOf k * bytesOf k) lo 0 x j (0, omega arith, omega arith, λ i q. omega arith) l g′ je′ in
         record {
+          some = pos;
+          none = refl;
           v = from (v + windowOf k * bytesOf k);
-          holding = record { stands = st; bits = rw (re, ← zero-add (2 ^ j)) bs };
-          is = λ m. flushed-words v m f ∙ ap (λ (t : List ℕ). (2 * b + 1) ∷ t)
-              (write-join (bytesOf k) (windowOf k) x m (v + windowOf k * bytesOf k) 0 g′ ∙ rw (zero-add, re, je′));
+          holding = record { stands = st; near = near-from k (v + windowOf k * bytesOf k) lo next st (omega (arith, starts-low v lo (h .bits), stride-most k)); bits = (0, omega arith, omega arith, λ j g. omega arith) };
+          is = λ m. flushed-words v m f;
         }
 
-    both-from : (q : Place) (c v lo : ℕ) → Holding k lo (from v) p b → falls (bytesOf k) (windowOf k) v x ≡ false → LocatedAt k next x Off → c ≡ bytesOf k → Stands k (from (x + c)) q
-        → Adding k (from v) b x (Both (2 * b + 1) (record { place = q; bits = 0 }))
-    both-from q c v lo h f o ce s =
-        let g = o (from (v + windowOf k * bytesOf k)) (fw v (h .stands)) in
-        record {
-          v = from (x + bytesOf k);
-          holding = record { stands = rw ce at s; bits = alone-bits k x };
-          is = λ m. flushed-words v m f ∙ ap (λ (t : List ℕ). (2 * b + 1) ∷ t) (write-word (bytesOf k) (windowOf k) x m (v + windowOf k * bytesOf k) g);
-        }
+flush-acts : (k : Class) (p : Pending) (next : Place) (x : ℕ) → LocatedAt k (p .place) x Off → 0 < p .bits → ForwardFrom k (p .place) next → (w : Where) (lo : ℕ)
+    → Holding k lo w (p .place) (p .bits) → lo ≤ x → Acts k lo w p x (Flushed (2 * p .bits + 1) (record { place = next; bits = 0 }))
+flush-acts k p next x o pos fw w lo h l =
+    let (v, e) = some-from k p x pos w lo (h .bits) in
+    subst (λ (u : Where). Precedes k lo u (p .bits) x (2 * p .bits + 1) (record { place = next; bits = 0 })) (sym e)
+    (flush-from k p x pos next fw v lo (subst (λ (u : Where). Holding k lo u (p .place) (p .bits)) e h) (subst (λ (u : Where). fallsAt k u x ≡ false) e (o w (h .stands))))
 
 -- as the code asks them
-module _ (k : Class) (p : Place) (b x : ℕ) (next : Place) (fw : ForwardFrom k p next) where
-  abbrev Asked : Packed → Type 0
-  Asked r = (w : Where) (lo : ℕ) → Holding k lo w p b → lo ≤ x → fallsAt k w x ≡ false → 0 < b → Adding k w b x r
+module _ (k : Class) (p : Pending) (x : ℕ) where
+  pub join-is : (j r : ℕ) → LocatedAt k (p .place) x (On j) → r ≡ 2 ^ j → Packs k p x (Joined (record { place = p .place; bits = p .bits + r }))
+  join-is j r o e = record { acts = join-acts k p x j r o e }
 
-  pub open-is : (j r : ℕ) → LocatedAt k next x (On j) → r ≡ 2 ^ j → Asked (Flushed (2 * b + 1) (record { place = next; bits = r }))
-  open-is j r o re w lo h l f pos =
-      let (v, e) = some-from k p b x pos w lo (h .bits) in
-      subst (λ (u : Where). Adding k u b x (Flushed (2 * b + 1) (record { place = next; bits = r }))) (sym e)
-      (open-from k p b x pos next fw v lo j r (subst (λ (u : Where). Holding k lo u p b) e h) l (subst (λ (u : Where). fallsAt k u x ≡ false) e f) o re)
+  module _ (o : LocatedAt k (p .place) x Off) where
+    pub alone-is : (q : Place) (c : ℕ) → p .bits ≤ 0 → c ≡ bytesOf k → Stands k (from (x + c)) q → Packs k p x (Alone (record { place = q; bits = 0 }))
+    alone-is q c z e s = record { acts = alone-acts k p q c x o z e s }
 
-  pub both-is : (q : Place) (c : ℕ) → LocatedAt k next x Off → c ≡ bytesOf k → Stands k (from (x + c)) q → Asked (Both (2 * b + 1) (record { place = q; bits = 0 }))
-  both-is q c o ce s w lo h l f pos =
-      let (v, e) = some-from k p b x pos w lo (h .bits) in
-      subst (λ (u : Where). Adding k u b x (Both (2 * b + 1) (record { place = q; bits = 0 }))) (sym e)
-      (both-from k p b x pos next fw q c v lo (subst (λ (u : Where). Holding k lo u p b) e h) (subst (λ (u : Where). fallsAt k u x ≡ false) e f) o ce s)
+    pub flush-is : (next : Place) → 0 < p .bits → ForwardFrom k (p .place) next → Packs k p x (Flushed (2 * p .bits + 1) (record { place = next; bits = 0 }))
+    flush-is next pos fw = record { acts = flush-acts k p next x o pos fw }
 
 -- ---- small facts
 pub small-on : (k : Class) (j n : ℕ) → n ≡ windowOf k → j < n → Small (On j)
@@ -207,12 +277,6 @@ located-on k p x f e w s = subst (Located k w x) e (f w s)
 pub located-off : (k : Class) (p : Place) (x : ℕ) {r : Location} → LocatedAt k p x r → r ≡ Off → LocatedAt k p x Off
 located-off k p x f e w s = subst (Located k w x) e (f w s)
 
--- an offset that the pending bitmap does not take
-pub flush-is : (k : Class) (p : Place) (b x : ℕ) (r : Packed) → LocatedAt k p x Off → 0 < b
-    → ((w : Where) (lo : ℕ) → Holding k lo w p b → lo ≤ x → fallsAt k w x ≡ false → 0 < b → Adding k w b x r)
-    → (w : Where) (lo : ℕ) → Holding k lo w p b → lo ≤ x → Adding k w b x r
-flush-is k p b x r o pos f w lo h l = f w lo h l (o w (h .stands)) pos
+pub ruleset locating = (bit-is, off-at, on-at, forward-far, forward-at, bitmap-in, small-on, small-off, needs)
 
-pub ruleset locating = (bit-is, off-low, off-rest, off-far, on-at, forward-far, forward-at, bitmap-in, small-on, small-off, needs)
-
-pub ruleset packing = (join-is, alone-is, open-is, both-is, flush-is, small-is, bit-sum, located-on, located-off, needs)
+pub ruleset packing = (join-is, alone-is, flush-is, small-is, bit-sum, located-on, located-off, needs)

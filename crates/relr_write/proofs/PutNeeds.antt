@@ -1,10 +1,12 @@
 -- The needs of the writer's second pass and of a write as a whole, stated as the code asks them.
 -- Assumes nothing.
+use mathlib.Core.Bool.{Bool, true, false, cond}
 use mathlib.Core.List.{List, [], _∷_, _++_, append-assoc, append-nil}
 use mathlib.Core.Path.{_≡_, refl, sym, ap, subst, _∙_}
-use Prim.Native.Nat.{ℕ, _+_, _*_, _^_, _≤_, _<_}
+use Prim.Native.Nat.{ℕ, _+_, _-_, _*_, _%_, _^_, _≤_, _<_}
 use native.Mathlib.Numerals.{add-one}
 use native.Mathlib.Omega.{arith}
+use lib.Dec.{ltb}
 use lib.ListN.{length, getD, drop, length-append}
 use lib.Seq.{drop-cons, length-sets}
 use mir.Syntax.{w64}
@@ -28,17 +30,14 @@ use Rattle.relr_table.specs.Table.{spaceOf, encode}
 use Rattle.relr_table.specs.Contract.{itself, WritesIn}
 use Rattle.relr_table.specs.Place.{Nowhere}
 use Rattle.relr_write.specs.declared.packer.Pending.{Pending}
+use Rattle.relr_write.specs.declared.Rest.{Rest}
 use Rattle.relr_write.specs.declared.packer.Packed.{Packed}
-use Rattle.relr_write.specs.declared.packer.Packed.the-variants.{Joined, Alone, Flushed, Both}
+use Rattle.relr_write.specs.declared.packer.Packed.the-variants.{Joined, Flushed, Alone}
 use Rattle.relr_table.specs.Inner.{Put}
-use Rattle.relr_write.specs.Inner.{Packs, outOf, afterOf, endOf, tableBytes, checkedTable, Encodable, Room}
-use Rattle.relr_write.proofs.WriteNeeds.{checked-legal, holding-small, Packing, packing-begin, packing-more, packing-end}
+use Rattle.relr_write.specs.Inner.{Near, Packs, endOf, tableBytes, checkedTable, Encodable, Room, Leaves}
+use Rattle.relr_write.proofs.WriteNeeds.{checked-legal, holding-small, Packing, packing-begin, packing-join, packing-alone, packing-less, packing-flush, packing-end}
 
 -- ---- stores
-pub put-then : {old mid new a b : List ℕ} {at next past : ℕ} → Put old at a next mid → Put mid next b past new → Put old at (a ++ b) past new
-put-then {old} {mid} {new} {a} {b} {at} v w =
-    record { next = omega (arith, v .next, w .next, length-append a b); list = w .list ∙ rw (v .next, v .list) (sets-append old at a b) }
-
 pub put-long : {old new l : List ℕ} {at next : ℕ} → Put old at l next new → length new ≡ length old
 put-long {old} {l = l} {at = at} v = ap length (v .list) ∙ length-sets old at l
 
@@ -52,42 +51,6 @@ pub put-fits : (k : Class) (old : List ℕ) (at c : ℕ) → c ≡ bytesOf k →
 put-fits k old at c e h l = record { fits = omega arith }
 
 pub ruleset stores = (put-one, put-fits, needs)
-
--- ---- the words of a step
-module _ (k : Class) (old : List ℕ) (at x : ℕ) (r : Packed) where
-  pub step-joined : {q : Pending} → r ≡ Joined q → Put old at (bytesOfWords (bytesOf k) (outOf x r)) at old
-  step-joined e = rw (e, bytes-words-none) (record { next = omega arith; list = refl })
-
-  module _ {q : Pending} (e : r ≡ Alone q) where
-    pub room-alone : Room at (length (bytesOfWords (bytesOf k) (outOf x r))) old → Room at (bytesOf k) old
-    room-alone h = rw (e, word-long k x) at h
-
-    pub step-alone : {n : ℕ} {new : List ℕ} → Put old at (bytesOfWords (bytesOf k) (x ∷ [])) n new → Put old at (bytesOfWords (bytesOf k) (outOf x r)) n new
-    step-alone h = rw e h
-
-  module _ {y : ℕ} {q : Pending} (e : r ≡ Flushed y q) where
-    pub room-flushed : Room at (length (bytesOfWords (bytesOf k) (outOf x r))) old → Room at (bytesOf k) old
-    room-flushed h = rw (e, word-long k y) at h
-
-    pub step-flushed : {n : ℕ} {new : List ℕ} → Put old at (bytesOfWords (bytesOf k) (y ∷ [])) n new → Put old at (bytesOfWords (bytesOf k) (outOf x r)) n new
-    step-flushed h = rw e h
-
-  module _ {y : ℕ} {q : Pending} (e : r ≡ Both y q) where
-    both-long : length (bytesOfWords (bytesOf k) (y ∷ x ∷ [])) ≡ bytesOf k + bytesOf k
-    both-long = bytes-words-length (bytesOf k) (y ∷ x ∷ []) ∙ omega arith
-
-    pub room-both : Room at (length (bytesOfWords (bytesOf k) (outOf x r))) old → Room at (bytesOf k) old
-    room-both h = let g = rw (e, both-long) at h in omega arith
-
-    module _ {n : ℕ} {mid : List ℕ} (u : Put old at (bytesOfWords (bytesOf k) (y ∷ [])) n mid) where
-      pub room-second : Room at (length (bytesOfWords (bytesOf k) (outOf x r))) old → Room n (bytesOf k) mid
-      room-second h = let g = rw (e, both-long) at h in omega (arith, u .next, word-long k y, put-long u)
-
-      pub step-both : {m : ℕ} {new : List ℕ} → Put mid n (bytesOfWords (bytesOf k) (x ∷ [])) m new → Put old at (bytesOfWords (bytesOf k) (outOf x r)) m new
-      step-both {m} {new} v =
-          rw e (subst (λ (l : List ℕ). Put old at l m new) (sym (bytes-words-append (bytesOf k) (y ∷ []) (x ∷ []))) (put-then u v))
-
-pub ruleset steps = (step-joined, room-alone, step-alone, room-flushed, step-flushed, room-both, room-second, step-both, needs)
 
 -- ---- the second pass
 pub record Putting (k : Class) (l old : List ℕ) (i : ℕ) (p : Pending) (at : ℕ) (now : List ℕ) : Type 0 where
@@ -135,12 +98,6 @@ module _ {k : Class} {l old : List ℕ} (f : Encodable k l old) {i at : ℕ} {p 
   pub putting-small : p .bits < 2 ^ 63
   putting-small = holding-small k (g .packing .holding)
 
-  pub putting-double : Fits w64 (2 * p .bits)
-  putting-double = record { fits = omega (arith, putting-small) }
-
-  pub putting-full : Fits w64 (2 * p .bits + 1)
-  putting-full = record { fits = omega (arith, putting-small) }
-
   pub putting-kept : (new : List ℕ) → length new ≡ length now → length new ≡ length old
   putting-kept new e = e ∙ putting-long
 
@@ -155,53 +112,151 @@ module _ {k : Class} {l old : List ℕ} (f : Encodable k l old) {i at : ℕ} {p 
     left : drop i l ≡ x ∷ drop (i + 1) l
     left = rw (xe, add-one) (drop-cons l i 0 (omega arith))
 
-    next-legal : (g .lo ≤ x) × (x + bytesOf k ≤ spaceOf k) × Legal (bytesOf k) (spaceOf k) (x + 1) (drop (i + 1) l)
+    next-legal : (g .lo ≤ x) × (x % 2 ≡ 0) × (x + bytesOf k ≤ spaceOf k) × Legal (bytesOf k) (spaceOf k) (x + 1) (drop (i + 1) l)
     unfolding Legal
-    next-legal = let h : Legal (bytesOf k) (spaceOf k) (g .lo) (x ∷ drop (i + 1) l) = rw left at (g .legal) in (h .0, h .2, rw add-one (h .3))
+    next-legal = let h : Legal (bytesOf k) (spaceOf k) (g .lo) (x ∷ drop (i + 1) l) = rw left at (g .legal) in (h .0, h .1, h .2, rw add-one (h .3))
 
     pub putting-in : x + bytesOf k ≤ spaceOf k
-    putting-in = next-legal .1
+    putting-in = next-legal .2
 
-    module _ (r : Packed) (pk : Packs k p x r) where
-      more : Packing k l (g .out ++ outOf x r) (i + 1) (x + 1) (afterOf r)
-      more = packing-more (g .packing) r (omega arith) xe (next-legal .0) pk
+    pub putting-even : x % 2 ≡ 0
+    putting-even = next-legal .1
 
-      fits : at + length (bytesOfWords (bytesOf k) (outOf x r)) ≤ length old
-      fits = part (outOf x r) _ (more .so ∙ append-assoc (g .out) (outOf x r) _)
+    pub putting-near : Near (p .place) x
+    putting-near = λ z. omega (arith, g .packing .holding .near z, next-legal .0)
 
-      pub putting-room : Room at (length (bytesOfWords (bytesOf k) (outOf x r))) now
-      putting-room = omega (arith, fits, putting-long)
+    module _ {r : Packed} (pk : Packs k p x r) where
+      pub putting-join : {q : Pending} → r ≡ Joined q → Putting k l old (i + 1) q at now
+      putting-join re =
+          record {
+            out = g .out;
+            lo = x + 1;
+            packing = packing-join (g .packing) (omega arith) xe (next-legal .0) pk re;
+            legal = next-legal .3;
+            place = g .place;
+            held = g .held;
+            within = omega arith;
+          }
 
-      pub putting-more : {m : ℕ} {q : Pending} {new : List ℕ} → q ≡ afterOf r → Put now at (bytesOfWords (bytesOf k) (outOf x r)) m new → Putting k l old (i + 1) q m new
-      putting-more qe u =
-          let (a, b) = stored (outOf x r) fits u in
-          record { out = g .out ++ outOf x r; lo = x + 1; packing = rw qe more; legal = next-legal .2; place = a; held = b; within = omega arith }
+      -- a word of the table comes next
+      module _ {j lo : ℕ} {q : Pending} (y : ℕ) (pa : Packing k l (g .out ++ y ∷ []) j lo q) where
+        fits : at + length (bytesOfWords (bytesOf k) (y ∷ [])) ≤ length old
+        fits = part (y ∷ []) _ (pa .so ∙ append-assoc (g .out) (y ∷ []) _)
 
-  module _ {n : ℕ} (ne : n ≡ length l) (il : n ≤ i) where
-    ended : table (bytesOf k) (windowOf k) l ≡ g .out ++ endOf (p .bits)
-    ended = packing-end (g .packing) (omega arith)
+        room : Room at (bytesOf k) now
+        room = omega (arith, fits, word-long k y, putting-long)
 
-    pub putting-done : p .bits ≤ 0 → now ≡ tableBytes k l ++ drop (length (tableBytes k l)) old
-    putting-done z =
-        let e : table (bytesOf k) (windowOf k) l ≡ g .out = ended ∙ rw (le-ltb 0 (p .bits) z) (append-nil (g .out)) in
-        rw (e, ← g .place) (g .held)
+        more : {m : ℕ} {new : List ℕ} → Legal (bytesOf k) (spaceOf k) lo (drop j l) → j ≤ length l → Put now at (bytesOfWords (bytesOf k) (y ∷ [])) m new → Putting k l old j q m new
+        more le jl u =
+            let (a, b) = stored (y ∷ []) fits u in
+            record { out = g .out ++ y ∷ []; lo = lo; packing = pa; legal = le; place = a; held = b; within = jl }
 
-    module _ (pos : 0 < p .bits) where
-      last : table (bytesOf k) (windowOf k) l ≡ g .out ++ (2 * p .bits + 1) ∷ []
-      last = ended ∙ rw (lt-ltb 0 (p .bits) pos)
+      module _ {q : Pending} (re : r ≡ Alone q) where
+        alone : Packing k l (g .out ++ x ∷ []) (i + 1) (x + 1) q
+        alone = packing-alone (g .packing) (omega arith) xe (next-legal .0) pk re
 
-      room : at + length (bytesOfWords (bytesOf k) ((2 * p .bits + 1) ∷ [])) ≤ length old
-      room = part ((2 * p .bits + 1) ∷ []) [] last
+        pub putting-room-alone : Room at (bytesOf k) now
+        putting-room-alone = room x alone
 
-      pub putting-last : Room at (bytesOf k) now
-      putting-last = omega (arith, room, word-long k (2 * p .bits + 1), putting-long)
+        pub putting-alone : {m : ℕ} {new : List ℕ} → Put now at (bytesOfWords (bytesOf k) (x ∷ [])) m new → Putting k l old (i + 1) q m new
+        putting-alone u = more x alone (next-legal .3) (omega arith) u
 
-      pub putting-end : {m : ℕ} {new : List ℕ} → Put now at (bytesOfWords (bytesOf k) ((2 * p .bits + 1) ∷ [])) m new → new ≡ tableBytes k l ++ drop (length (tableBytes k l)) old
-      putting-end u =
-          let (a, b) = stored ((2 * p .bits + 1) ∷ []) room u in
-          rw (last, ← a) b
+      module _ {y : ℕ} {q : Pending} (re : r ≡ Flushed y q) where
+        flushed : Packing k l (g .out ++ y ∷ []) i (g .lo) q
+        flushed = packing-flush (g .packing) (omega arith) xe (next-legal .0) pk re
 
-pub ruleset puttings = (putting-begin, putting-long, putting-kept, putting-double, putting-full, putting-small, putting-in, putting-room, putting-more, putting-done, putting-last, putting-end, needs)
+        pub putting-room-flushed : Room at (bytesOf k) now
+        putting-room-flushed = room y flushed
+
+        pub putting-flush : {m : ℕ} {new : List ℕ} → Put now at (bytesOfWords (bytesOf k) (y ∷ [])) m new → Putting k l old i q m new
+        putting-flush u = more y flushed (g .legal) (g .within) u
+
+        pub putting-less : 2 * (n - i) + length (endOf (q .bits)) < 2 * (n - i) + length (endOf (p .bits))
+        putting-less = packing-less (g .packing) (omega arith) xe (next-legal .0) pk re n
+
+  pub putting-end : {n : ℕ} → n ≡ length l → n ≤ i → Leaves k l old (record { at = at; bits = p .bits }) now
+  putting-end ne il = record { out = g .out; so = packing-end (g .packing) (omega arith); small = putting-small; place = g .place; held = g .held }
+
+-- an offset more, with at most one word pending
+end-most : (b : ℕ) → length (endOf b) ≤ 1
+end-most b = go (ltb 0 b)
+  where
+    go : (t : Bool) → length (cond t ((2 * b + 1) ∷ []) []) ≤ 1
+    go true = omega arith
+    go false = omega arith
+
+pub taken-less : (n i a b : ℕ) → i < n → 2 * (n - (i + 1)) + length (endOf a) < 2 * (n - i) + length (endOf b)
+taken-less n i a b h = omega (arith, end-most a)
+
+pub ruleset puttings = (putting-begin, putting-long, putting-kept, putting-small, putting-in, putting-even, putting-near, putting-join, putting-room-alone, putting-alone, putting-room-flushed, putting-flush, putting-less, taken-less, putting-end, needs)
+
+-- ---- the bitmap that is pending at the end
+module _ {k : Class} {l old : List ℕ} (f : Encodable k l old) {r : Rest} {now : List ℕ} (g : Leaves k l old r now) where
+  bytes-all : length (tableBytes k l) ≡ r .at + length (bytesOfWords (bytesOf k) (endOf (r .bits)))
+  bytes-all =
+      omega (
+        arith,
+        g .place,
+        ap (λ (t : List ℕ). length (bytesOfWords (bytesOf k) t)) (g .so),
+        ap length (bytes-words-append (bytesOf k) (g .out) (endOf (r .bits))),
+        length-append (bytesOfWords (bytesOf k) (g .out)) (bytesOfWords (bytesOf k) (endOf (r .bits))),
+      )
+
+  pub leaving-long : length now ≡ length old
+  leaving-long = buffer-long (bytesOfWords (bytesOf k) (g .out)) old (r .at) (g .held) (sym (g .place)) (omega (arith, f .room, bytes-all))
+
+  pub leaving-double : Fits w64 (2 * r .bits)
+  leaving-double = record { fits = omega (arith, g .small) }
+
+  pub leaving-full : Fits w64 (2 * r .bits + 1)
+  leaving-full = record { fits = omega (arith, g .small) }
+
+  pub leaving-done : r .bits ≤ 0 → now ≡ tableBytes k l ++ drop (length (tableBytes k l)) old
+  leaving-done z =
+      let e : table (bytesOf k) (windowOf k) l ≡ g .out = g .so ∙ rw (le-ltb 0 (r .bits) z) (append-nil (g .out)) in
+      rw (e, ← g .place) (g .held)
+
+  module _ (pos : 0 < r .bits) where
+    last : endOf (r .bits) ≡ (2 * r .bits + 1) ∷ []
+    last = rw (lt-ltb 0 (r .bits) pos)
+
+    pub leaving-room : Room (r .at) (bytesOf k) now
+    leaving-room = omega (arith, f .room, bytes-all, ap (λ (t : List ℕ). length (bytesOfWords (bytesOf k) t)) last, word-long k (2 * r .bits + 1), leaving-long)
+
+    pub leaving-end : {m : ℕ} {new : List ℕ} → Put now (r .at) (bytesOfWords (bytesOf k) ((2 * r .bits + 1) ∷ [])) m new → new ≡ tableBytes k l ++ drop (length (tableBytes k l)) old
+    leaving-end u =
+        let e : bytesOfWords (bytesOf k) (g .out) ++ bytesOfWords (bytesOf k) ((2 * r .bits + 1) ∷ []) ≡ tableBytes k l =
+        sym (bytes-words-append (bytesOf k) (g .out) ((2 * r .bits + 1) ∷ [])) ∙ ap (bytesOfWords (bytesOf k)) (sym (g .so ∙ rw last)) in
+        let h : r .at + length (bytesOfWords (bytesOf k) ((2 * r .bits + 1) ∷ [])) ≡ length (tableBytes k l) =
+        sym (bytes-all ∙ rw last) in
+        u .list
+        ∙ buffer-more (bytesOfWords (bytesOf k) (g .out)) old (r .at) (bytesOfWords (bytesOf k) ((2 * r .bits + 1) ∷ [])) (g .held) (sym (g .place)) (omega (arith, f .room, h))
+        ∙ rw (e, h)
+
+pub ruleset leavings = (leaving-long, leaving-double, leaving-full, leaving-done, leaving-room, leaving-end, needs)
+
+-- ---- one class by two names
+module _ {k j : Class} (e : k ≡ j) (l : List ℕ) where
+  pub sized-to : {f : Found} → f ≡ foundOf (checkedTable k l) → f ≡ foundOf (checkedTable j l)
+  sized-to {f} h = subst (λ (i : Class). f ≡ foundOf (checkedTable i l)) e h
+
+  pub sized-from : {f : Found} → f ≡ foundOf (checkedTable j l) → f ≡ foundOf (checkedTable k l)
+  sized-from {f} h = subst (λ (i : Class). f ≡ foundOf (checkedTable i l)) (sym e) h
+
+  module _ {old : List ℕ} where
+    pub encodable-to : Encodable k l old → Encodable j l old
+    encodable-to h = subst (λ (i : Class). Encodable i l old) e h
+
+    pub encodable-from : Encodable j l old → Encodable k l old
+    encodable-from h = subst (λ (i : Class). Encodable i l old) (sym e) h
+
+    pub leaves-to : {r : Rest} {new : List ℕ} → Leaves k l old r new → Leaves j l old r new
+    leaves-to {r} {new} h = subst (λ (i : Class). Leaves i l old r new) e h
+
+    pub leaves-from : {r : Rest} {new : List ℕ} → Leaves j l old r new → Leaves k l old r new
+    leaves-from {r} {new} h = subst (λ (i : Class). Leaves i l old r new) (sym e) h
+
+pub ruleset names = (sized-to, sized-from, encodable-to, encodable-from, leaves-to, leaves-from, needs)
 
 -- ---- a write as a whole
 module _ (k : Class) (l old : List ℕ) where

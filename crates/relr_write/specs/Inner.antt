@@ -5,7 +5,7 @@ use mathlib.Core.List.{List, [], _∷_, _++_}
 use mathlib.Core.Path.{_≡_}
 use Prim.Native.Nat.{ℕ, suc, _+_, _-_, _*_, _^_, _%_, _/_, _≤_, _<_}
 use lib.Dec.{ltb, eqb}
-use lib.ListN.{length}
+use lib.ListN.{length, drop}
 use Rattle.answer.specs.declared.Refusal.the-variants.{Order, Space, Odd}
 use Rattle.answer.specs.Outcome.{Outcome, accepted, after}
 use Rattle.word.specs.declared.Class.{Class}
@@ -15,12 +15,22 @@ use Rattle.relr_table.specs.Words.{Where, nowhere, from, falls, write, table, L
 use Rattle.relr_write.specs.declared.packer.Location.{Location}
 use Rattle.relr_write.specs.declared.packer.Location.the-variants.{On, Off}
 use Rattle.relr_write.specs.declared.packer.Packed.{Packed}
-use Rattle.relr_write.specs.declared.packer.Packed.the-variants.{Joined, Alone, Flushed, Both}
+use Rattle.relr_write.specs.declared.packer.Packed.the-variants.{Joined, Flushed, Alone}
 use Rattle.relr_write.specs.declared.packer.Pending.{Pending}
 use Rattle.relr_write.specs.declared.Fault.{Fault}
+use Rattle.relr_write.specs.declared.Rest.{Rest}
 use Rattle.relr_write.specs.declared.Fault.the-variants.{Clean, Bad}
 use Rattle.relr_table.specs.Table.{spaceOf, checked}
 use Rattle.relr_table.specs.Place.{Place, Stands}
+
+-- r is a distance in words, or, where that is not whole words, no number of a window
+pub record Turned (k : Class) (d r : ℕ) : Type 0 where
+  pub whole : d % bytesOf k ≡ 0 → r ≡ d / bytesOf k
+  pub part : r < windowOf k → d % bytesOf k ≡ 0
+
+-- an even place is not far above an offset
+abbrev pub Near : Place → ℕ → Type 0
+Near p x = p % 2 ≡ 0 → p ≤ x + 1024
 
 -- whether x falls on a location of the bitmap that starts at *where* w
 abbrev pub fallsAt : Class → Where → ℕ → Bool
@@ -58,6 +68,7 @@ Bits k lo (from v) b = (m : ℕ) × (m ≤ windowOf k) × (b < 2 ^ m) × ((j : �
 -- what is pending at *where* w, after offsets below lo
 pub record Holding (k : Class) (lo : ℕ) (w : Where) (p : Place) (b : ℕ) : Type 0 where
   pub stands : Stands k w p
+  pub near : Near p lo
   pub bits : Bits k lo w b
 
 -- the offset x, after which q is pending, adds the words `out`
@@ -66,30 +77,23 @@ pub record Adds (k : Class) (w : Where) (b x : ℕ) (out : List ℕ) (q : Pendin
   pub holding : Holding k (suc x) v (q .place) (q .bits)
   pub is : (l : List ℕ) → wordsFor k w b (x ∷ l) ≡ out ++ wordsFor k v (q .bits) l
 
--- the words that a step adds, and what is pending after it
-abbrev pub outOf : ℕ → Packed → List ℕ
-outOf x (Joined q) = []
-outOf x (Alone q) = x ∷ []
-outOf x (Flushed y q) = y ∷ []
-outOf x (Both y q) = y ∷ x ∷ []
+-- before the offset x the word y is written, and then nothing is pending
+pub record Precedes (k : Class) (lo : ℕ) (w : Where) (b x y : ℕ) (q : Pending) : Type 0 where
+  pub some : 0 < b
+  pub none : q .bits ≡ 0
+  pub v : Where
+  pub holding : Holding k lo v (q .place) 0
+  pub is : (l : List ℕ) → wordsFor k w b (x ∷ l) ≡ y ∷ wordsFor k v 0 (x ∷ l)
 
-abbrev pub afterOf : Packed → Pending
-afterOf (Joined q) = q
-afterOf (Alone q) = q
-afterOf (Flushed y q) = q
-afterOf (Both y q) = q
-
--- what an offset does
-abbrev pub Adding : Class → Where → ℕ → ℕ → Packed → Type 0
-Adding k w b x r = Adds k w b x (outOf x r) (afterOf r)
+-- what the offset x does
+abbrev pub Acts : Class → ℕ → Where → Pending → ℕ → Packed → Type 0
+Acts k lo w p x (Joined q) = (q .place ≡ p .place) × (0 < q .bits) × Adds k w (p .bits) x [] q
+Acts k lo w p x (Flushed y q) = Precedes k lo w (p .bits) x y q
+Acts k lo w p x (Alone q) = (p .bits ≡ 0) × (q .bits ≡ 0) × Adds k w (p .bits) x (x ∷ []) q
 
 -- the same, whatever is pending
-abbrev pub Packs : Class → Pending → ℕ → Packed → Type 0
-Packs k p x r = (w : Where) (lo : ℕ) → Holding k lo w (p .place) (p .bits) → lo ≤ x → Adding k w (p .bits) x r
-
--- the same of an offset that the pending bitmap does not take
-abbrev pub Flushes : Class → Pending → ℕ → Packed → Type 0
-Flushes k p x r = (w : Where) (lo : ℕ) → Holding k lo w (p .place) (p .bits) → lo ≤ x → fallsAt k w x ≡ false → 0 < p .bits → Adding k w (p .bits) x r
+pub record Packs (k : Class) (p : Pending) (x : ℕ) (r : Packed) : Type 0 where
+  pub acts : (w : Where) (lo : ℕ) → Holding k lo w (p .place) (p .bits) → lo ≤ x → Acts k lo w p x r
 
 -- what is wrong with an offset of which `least` is the least allowed, as `checked` looks for it
 abbrev pub faultOf : Class → ℕ → ℕ → Fault
@@ -114,3 +118,11 @@ pub record Encodable (k : Class) (l old : List ℕ) : Type 0 where
 -- room for bytes at a place
 abbrev pub Room : ℕ → ℕ → List ℕ → Type 0
 Room at n old = at + n ≤ length old
+
+-- after the second pass the buffer holds words at its front, up to a place, which with the bitmap that is pending are the table
+pub record Leaves (k : Class) (l old : List ℕ) (r : Rest) (new : List ℕ) : Type 0 where
+  pub out : List ℕ
+  pub so : table (bytesOf k) (windowOf k) l ≡ out ++ endOf (r .bits)
+  pub small : r .bits < 2 ^ 63
+  pub place : r .at ≡ length (bytesOfWords (bytesOf k) out)
+  pub held : new ≡ bytesOfWords (bytesOf k) out ++ drop (r .at) old

@@ -7,8 +7,8 @@ ghost use Rattle.answer.specs.Outcome.{foundOf, listLimit};
 ghost use Rattle.word.specs.Class.{bytesOf};
 ghost use Rattle.word.specs.Word.{bytesOfWords};
 ghost use Rattle.relr_table.specs.Contract.{WritesIn};
-ghost use Rattle.relr_table.specs.Inner.{Put};
-ghost use Rattle.relr_write.specs.Inner.{faultOf, endOf, checkedTable, outOf, Encodable, Room, tableBytes};
+ghost use Rattle.relr_table.specs.Inner.{flagged, Put};
+ghost use Rattle.relr_write.specs.Inner.{faultOf, checkedTable, Encodable, Room, Leaves, tableBytes};
 use crate::packer::Packed;
 use crate::packer::Pending;
 use answer::Answer;
@@ -40,17 +40,7 @@ fn faulty(k: Class, x: u64, least: u64) -> Fault
     Fault::Clean
 }
 
-// The words of a bitmap that is pending at the end.
-fn waiting(p: Pending) -> u64
-    ensures { λ r. ⌜ r ≡ length (endOf (p .bits)) ⌝ }
-{
-    if 0 < p.bits {
-        return 1;
-    }
-    0
-}
-
-// The first pass: how many bytes the table takes, or the first bad offset.
+// The first pass: how many bytes the table takes, or the first bad offset. Of a pending bitmap it keeps one bit, which is as many words.
 fn size(k: Class, offsets: &[u64]) -> Found
     requires { ⌜ length (now offsets) ≤ listLimit ⌝ }
     ensures { λ r. ⌜ r ≡ foundOf (checkedTable k (now (offsets .entry))) ⌝ }
@@ -58,10 +48,8 @@ fn size(k: Class, offsets: &[u64]) -> Found
     let n = offsets.len();
     let mut i: usize = 0;
     let mut least: u64 = 0;
-    let mut pending = Pending {
-        place: place::NOWHERE,
-        bits: 0,
-    };
+    let mut place = place::NOWHERE;
+    let mut bits: u64 = 0;
     let mut words: u64 = 0;
     while i < n {
         let x = offsets[i];
@@ -71,18 +59,47 @@ fn size(k: Class, offsets: &[u64]) -> Found
                 return Found::Refused(why, i as u64);
             }
             Fault::Clean => {
-                let packed = packer::pack(k, pending, x);
-                words += packer::added(packed);
-                pending = packer::after(packed);
-                least = x + 1;
-                i += 1;
+                let packed = packer::pack(k, Pending { place, bits }, x);
+                match packed {
+                    Packed::Joined(_) => {
+                        bits = 1;
+                        least = x + 1;
+                        i += 1;
+                    }
+                    Packed::Flushed(_, p) => {
+                        place = p.place;
+                        bits = 0;
+                        words += 1;
+                    }
+                    Packed::Alone(p) => {
+                        place = p.place;
+                        words += 1;
+                        least = x + 1;
+                        i += 1;
+                    }
+                }
             }
         }
     }
-    let total = words + waiting(pending);
-    let c = k.bytes() as u64;
-    let need = total * c;
-    Found::Count(need)
+    Found::Count((words + bits) * (k.bytes() as u64))
+}
+
+// The same by a flag for the class and for each class, so that the compiler makes a loop for each.
+fn size_by(wide: bool, offsets: &[u64]) -> Found
+    requires { ⌜ length (now offsets) ≤ listLimit ⌝ }
+    ensures { λ r. ⌜ r ≡ foundOf (checkedTable (flagged wide) (now (offsets .entry))) ⌝ }
+{
+    size(place::chosen(wide), offsets)
+}
+
+fn measure(k: Class, offsets: &[u64]) -> Found
+    requires { ⌜ length (now offsets) ≤ listLimit ⌝ }
+    ensures { λ r. ⌜ r ≡ foundOf (checkedTable k (now (offsets .entry))) ⌝ }
+{
+    match k {
+        Class::Four => size_by(false, offsets),
+        Class::Eight => size_by(true, offsets),
+    }
 }
 
 // Stores a word at a place, and returns the place after it.
@@ -94,26 +111,16 @@ fn put_word(k: Class, table: &mut [u8], at: usize, w: u64) -> usize
     at + (k.bytes() as usize)
 }
 
-// Stores the words that a step adds.
-fn put_step(k: Class, table: &mut [u8], at: usize, x: u64, packed: Packed) -> usize
-    requires { ⌜ Room at (length (bytesOfWords (bytesOf k) (outOf x packed))) (now table) ⌝ }
-    ensures { λ r. ⌜ Put (now (table .entry)) at (bytesOfWords (bytesOf k) (outOf x packed)) r (now (table .exit)) ⌝ }
-{
-    match packed {
-        Packed::Joined(_) => at,
-        Packed::Alone(_) => put_word(k, table, at, x),
-        Packed::Flushed(y, _) => put_word(k, table, at, y),
-        Packed::Both(y, _) => {
-            let next = put_word(k, &mut *table, at, y);
-            put_word(k, &mut *table, next, x)
-        }
-    }
+// What the second pass leaves: the place after the words that it put, and the bits of a bitmap that is pending there.
+pub struct Rest {
+    pub at: usize,
+    pub bits: u64,
 }
 
-// The second pass, over a list that the first accepted.
-fn put(k: Class, offsets: &[u64], table: &mut [u8])
+// The second pass, over a list that the first accepted, up to the bitmap that is pending at the end.
+fn put(k: Class, offsets: &[u64], table: &mut [u8]) -> Rest
     requires { ⌜ Encodable k (now offsets) (now table) ⌝ }
-    ensures { λ _. ⌜ now (table .exit) ≡ tableBytes k (now (offsets .entry)) ++ drop (length (tableBytes k (now (offsets .entry)))) (now (table .entry)) ⌝ }
+    ensures { λ r. ⌜ Leaves k (now (offsets .entry)) (now (table .entry)) r (now (table .exit)) ⌝ }
 {
     let n = offsets.len();
     let mut i: usize = 0;
@@ -125,12 +132,54 @@ fn put(k: Class, offsets: &[u64], table: &mut [u8])
     while i < n {
         let x = offsets[i];
         let packed = packer::pack(k, pending, x);
-        at = put_step(k, &mut *table, at, x, packed);
-        pending = packer::after(packed);
-        i += 1;
+        match packed {
+            Packed::Joined(p) => {
+                pending = p;
+                i += 1;
+            }
+            Packed::Flushed(w, p) => {
+                at = put_word(k, &mut *table, at, w);
+                pending = p;
+            }
+            Packed::Alone(p) => {
+                at = put_word(k, &mut *table, at, x);
+                pending = p;
+                i += 1;
+            }
+        }
     }
-    if 0 < pending.bits {
-        put_word(k, &mut *table, at, 2 * pending.bits + 1);
+    Rest {
+        at,
+        bits: pending.bits,
+    }
+}
+
+// The same by a flag for the class and for each class.
+fn put_by(wide: bool, offsets: &[u64], table: &mut [u8]) -> Rest
+    requires { ⌜ Encodable (flagged wide) (now offsets) (now table) ⌝ }
+    ensures { λ r. ⌜ Leaves (flagged wide) (now (offsets .entry)) (now (table .entry)) r (now (table .exit)) ⌝ }
+{
+    put(place::chosen(wide), offsets, table)
+}
+
+fn put_all(k: Class, offsets: &[u64], table: &mut [u8]) -> Rest
+    requires { ⌜ Encodable k (now offsets) (now table) ⌝ }
+    ensures { λ r. ⌜ Leaves k (now (offsets .entry)) (now (table .entry)) r (now (table .exit)) ⌝ }
+{
+    match k {
+        Class::Four => put_by(false, offsets, table),
+        Class::Eight => put_by(true, offsets, table),
+    }
+}
+
+// The whole table, at the front of a buffer with room for it.
+fn fill(k: Class, offsets: &[u64], table: &mut [u8])
+    requires { ⌜ Encodable k (now offsets) (now table) ⌝ }
+    ensures { λ _. ⌜ now (table .exit) ≡ tableBytes k (now (offsets .entry)) ++ drop (length (tableBytes k (now (offsets .entry)))) (now (table .entry)) ⌝ }
+{
+    let rest = put_all(k, offsets, &mut *table);
+    if 0 < rest.bits {
+        put_word(k, &mut *table, rest.at, 2 * rest.bits + 1);
     }
 }
 
@@ -141,14 +190,14 @@ pub fn write_class(k: Class, offsets: &[u64], table: &mut [u8]) -> Answer
     if answer::LIST_LIMIT < offsets.len() {
         return answer::refuse(Refusal::Limit, 0);
     }
-    let found = size(k, offsets);
+    let found = measure(k, offsets);
     match found {
         Found::Refused(why, at) => answer::refuse(why, at),
         Found::Count(need) => {
             if (table.len() as u64) < need {
                 return answer::short_of(need);
             }
-            put(k, offsets, table);
+            fill(k, offsets, table);
             answer::accept(need)
         }
     }

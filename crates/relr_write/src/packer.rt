@@ -1,10 +1,10 @@
-// The writer's step: what one more offset adds to the words of a table.
+// The writer's step: what the next offset does to the words of a table.
 ghost use mathlib.Core.Path.{_≡_};
-ghost use Prim.Native.Nat.{_+_, _*_, _/_, _^_, _≤_, _<_};
+ghost use Prim.Native.Nat.{_+_, _%_, _^_, _≤_, _<_};
 ghost use lib.ListN.{length};
 ghost use Rattle.word.specs.Class.{bytesOf};
 ghost use Rattle.relr_table.specs.Table.{spaceOf};
-ghost use Rattle.relr_write.specs.Inner.{LocatedAt, Small, ForwardFrom, Flushes, Packs, outOf, afterOf};
+ghost use Rattle.relr_write.specs.Inner.{Turned, Near, LocatedAt, Small, ForwardFrom, Packs};
 use relr_table::place;
 use word::Class;
 
@@ -20,13 +20,12 @@ pub enum Location {
     Off,
 }
 
-// What an offset does: it joins the bitmap that is pending or would start next, is written itself, has the pending bitmap written and
-// opens the next one, or has that written and then itself.
+// What the next offset does: it joins the bitmap that is pending or would start next, has the pending bitmap written and waits for the
+// next one, or is written itself.
 pub enum Packed {
     Joined(Pending),
-    Alone(Pending),
     Flushed(u64, Pending),
-    Both(u64, Pending),
+    Alone(Pending),
 }
 
 fn bit(j: u64) -> u64
@@ -36,19 +35,23 @@ fn bit(j: u64) -> u64
     1u64 << j
 }
 
-// Where x falls in the bitmap that starts at a place. Nowhere and beyond are past every offset.
+// A distance in words, or, where it is not whole words, a number past every window: the bits below a word come to the top.
+fn turned(k: Class, d: u64) -> u64
+    ensures { λ r. ⌜ Turned k d r ⌝ }
+{
+    match k {
+        Class::Four => d / 4 + d % 4 * 4611686018427387904,
+        Class::Eight => d / 8 + d % 8 * 2305843009213693952,
+    }
+}
+
+// Where x falls in the bitmap that starts at a place. Nowhere and beyond are odd, so that x falls nowhere from there on.
 fn locate(k: Class, place: u64, x: u64) -> Location
-    requires { ⌜ x + bytesOf k ≤ spaceOf k ⌝ }
+    requires { ⌜ (x + bytesOf k ≤ spaceOf k) × (x % 2 ≡ 0) × Near place x ⌝ }
     ensures { λ r. ⌜ LocatedAt k place x r × Small r ⌝ }
 {
-    if x < place {
-        return Location::Off;
-    }
-    let d = x - place;
-    if 0 < place::rest(k, d) {
-        return Location::Off;
-    }
-    let j = place::whole(k, d);
+    let d = std::num::wrapping_sub_u64(x, place);
+    let j = turned(k, d);
     if j < k.window() as u64 {
         return Location::On(j);
     }
@@ -65,36 +68,9 @@ fn forward(k: Class, place: u64) -> u64
     place::BEYOND
 }
 
-// The pending bitmap does not take x, so it is written.
-fn flush(k: Class, p: Pending, x: u64) -> Packed
-    requires { ⌜ (p .bits < 2 ^ 63) × (x + bytesOf k ≤ spaceOf k) ⌝ }
-    ensures { λ r. ⌜ Flushes k p x r ⌝ }
-{
-    let place = p.place;
-    let next = forward(k, place);
-    let full = 2 * p.bits + 1;
-    let location = locate(k, next, x);
-    match location {
-        Location::On(j) => Packed::Flushed(
-            full,
-            Pending {
-                place: next,
-                bits: bit(j),
-            },
-        ),
-        Location::Off => Packed::Both(
-            full,
-            Pending {
-                place: place::past(k, x, k.bytes() as u64),
-                bits: 0,
-            },
-        ),
-    }
-}
-
-// One more offset, above all before it.
+// The next offset, above all that joined or were written.
 pub fn pack(k: Class, p: Pending, x: u64) -> Packed
-    requires { ⌜ (p .bits < 2 ^ 63) × (x + bytesOf k ≤ spaceOf k) ⌝ }
+    requires { ⌜ (p .bits < 2 ^ 63) × (x + bytesOf k ≤ spaceOf k) × (x % 2 ≡ 0) × Near (p .place) x ⌝ }
     ensures { λ r. ⌜ Packs k p x r ⌝ }
 {
     let place = p.place;
@@ -106,36 +82,19 @@ pub fn pack(k: Class, p: Pending, x: u64) -> Packed
         }),
         Location::Off => {
             if 0 < p.bits {
-                return flush(k, p, x);
+                let full = 2 * p.bits + 1;
+                return Packed::Flushed(
+                    full,
+                    Pending {
+                        place: forward(k, place),
+                        bits: 0,
+                    },
+                );
             }
             Packed::Alone(Pending {
                 place: place::past(k, x, k.bytes() as u64),
                 bits: 0,
             })
         }
-    }
-}
-
-// How many words a step adds.
-pub fn added(packed: Packed) -> u64
-    ensures { λ r. ⌜ r ≡ length (outOf 0 packed) ⌝ }
-{
-    match packed {
-        Packed::Joined(_) => 0,
-        Packed::Alone(_) => 1,
-        Packed::Flushed(_, _) => 1,
-        Packed::Both(_, _) => 2,
-    }
-}
-
-// What is pending after a step.
-pub fn after(packed: Packed) -> Pending
-    ensures { λ r. ⌜ r ≡ afterOf packed ⌝ }
-{
-    match packed {
-        Packed::Joined(p) => p,
-        Packed::Alone(p) => p,
-        Packed::Flushed(_, p) => p,
-        Packed::Both(_, p) => p,
     }
 }

@@ -1,104 +1,129 @@
-use Rattle.relr_write.proofs.WriteNeeds.{Sizing, sizings, sizing-sum}
 use lib.ListN.{length}
-use Prim.Native.Nat.{_-_, _≤_}
+use Prim.Native.Nat.{_+_, _-_, _*_, _≤_}
+use Rattle.relr_write.proofs.WriteNeeds.{Sizing, sizings}
 use Rattle.relr_write.proofs.size.Statement.{statement}
 use Rattle.relr_write.proofs.size.Tie as tie
 use Rattle.relr_write.proofs.size.Reads as reads
 use Rattle.relr_write.proofs.size.Lts as lts
-use Rattle.relr_write.proofs.packer.added.Reads as added-reads
-use Rattle.relr_write.proofs.packer.after.Reads as after-reads
-use Rattle.relr_write.proofs.packer.pack.Reads as pack-reads
 use Rattle.relr_write.proofs.faulty.Reads as faulty-reads
-use Rattle.relr_write.proofs.waiting.Reads as waiting-reads
+use Rattle.relr_write.proofs.packer.pack.Reads as pack-reads
 use Rattle.word.proofs.Class.bytes.Reads as bytes-reads
 
 abbrev Inv-loop : tie.InvT-loop
-Inv-loop k offsets n i₀ least₀ pending₀ words₀ i least pending words = Sizing k offsets i least pending words × (i ≤ length offsets)
+Inv-loop k offsets n i₀ least₀ place₀ bits₀ words₀ i least place bits words = Sizing k offsets i least place bits words × (i ≤ length offsets)
 
 abbrev μ-loop : tie.MeasureT-loop
-μ-loop k offsets n i₀ least₀ pending₀ words₀ i least pending words = length offsets - i
+μ-loop k offsets n i₀ least₀ place₀ bits₀ words₀ i least place bits words = 2 * (n - i) + bits
 
--- src/writer.rt:65:5
+-- src/lib.rt:54:5
 loop-holds : tie.Need-loop-holds Inv-loop μ-loop
 loop-holds c = search sizings
 
--- src/writer.rt:66:17
+-- src/lib.rt:55:17
 mul-x : tie.Need-mul-x Inv-loop μ-loop
 mul-x c = search sizings
 
--- src/writer.rt:66:17
+-- src/lib.rt:55:17
 shared-slice-read-x : tie.Need-shared-slice-read-x Inv-loop μ-loop
 shared-slice-read-x c = search sizings
 
--- src/writer.rt:67:13
+-- src/lib.rt:56:13
 faulty-requires : tie.Need-faulty-requires Inv-loop μ-loop
 faulty-requires c κs = search sizings
 
--- src/writer.rt:69:24
+-- src/lib.rt:58:24
 enum-known-found : tie.Need-enum-known-found Inv-loop μ-loop
 enum-known-found c = search sizings
 
--- src/writer.rt:70:17
+-- src/lib.rt:59:17
 returns : tie.Need-returns Inv-loop μ-loop
 returns c = search sizings
 
--- src/writer.rt:73:21
+-- src/lib.rt:62:46
 enum-told : tie.Need-enum-told Inv-loop μ-loop
 enum-told c = search sizings
 
--- src/writer.rt:73:21
+-- src/lib.rt:62:21
 pack-requires : tie.Need-pack-requires Inv-loop μ-loop
 pack-requires c κs = search sizings
 
--- src/writer.rt:74:26
-added-requires : tie.Need-added-requires Inv-loop μ-loop
-added-requires c κs = search sizings
+-- src/lib.rt:65:25
+enum-told-2 : tie.Need-enum-told-2 Inv-loop μ-loop
+enum-told-2 c = search sizings
 
--- src/writer.rt:74:17
-add-words : tie.Need-add-words Inv-loop μ-loop
-add-words c = search sizings
-
--- src/writer.rt:75:17
-after-requires : tie.Need-after-requires Inv-loop μ-loop
-after-requires c κs = search sizings
-
--- src/writer.rt:76:25
+-- src/lib.rt:66:33
 add-least : tie.Need-add-least Inv-loop μ-loop
 add-least c = search sizings
 
--- src/writer.rt:77:17
+-- src/lib.rt:67:25
 add-i : tie.Need-add-i Inv-loop μ-loop
 add-i c = search sizings
 
--- src/writer.rt:65:5
+-- src/lib.rt:54:5
 loop-less : tie.Need-loop-less Inv-loop μ-loop
 loop-less c = search sizings
 
--- src/writer.rt:65:5
+-- src/lib.rt:54:5
 loop-again : tie.Need-loop-again Inv-loop μ-loop
 loop-again c = search sizings
 
--- src/writer.rt:81:25
-waiting-requires : tie.Need-waiting-requires Inv-loop μ-loop
-waiting-requires c κs = search sizings
+-- src/lib.rt:69:40
+enum-known-packed : tie.Need-enum-known-packed Inv-loop μ-loop
+enum-known-packed c = search sizings
 
--- src/writer.rt:81:17
-add-total : tie.Need-add-total Inv-loop μ-loop
-add-total c = search sizing-sum
+-- src/lib.rt:72:25
+add-words : tie.Need-add-words Inv-loop μ-loop
+add-words c = search sizings
 
--- src/writer.rt:82:27
+-- src/lib.rt:54:5
+loop-less-2 : tie.Need-loop-less-2 Inv-loop μ-loop
+loop-less-2 c = search sizings
+
+-- src/lib.rt:54:5
+loop-again-2 : tie.Need-loop-again-2 Inv-loop μ-loop
+loop-again-2 c = (search (c .before .before .before .before .before .before .before .before .before .loop .inv .0, c .before .before .before .before .before .before .faulty .ensures, c .before .before .before .pack .ensures, sizings), search sizings)
+
+-- src/lib.rt:74:35
+enum-known-packed-2 : tie.Need-enum-known-packed-2 Inv-loop μ-loop
+enum-known-packed-2 c = search sizings
+
+-- src/lib.rt:76:25
+add-words-2 : tie.Need-add-words-2 Inv-loop μ-loop
+add-words-2 c = search sizings
+
+-- src/lib.rt:77:33
+add-least-2 : tie.Need-add-least-2 Inv-loop μ-loop
+add-least-2 c = search sizings
+
+-- src/lib.rt:78:25
+add-i-2 : tie.Need-add-i-2 Inv-loop μ-loop
+add-i-2 c = search sizings
+
+-- src/lib.rt:54:5
+loop-less-3 : tie.Need-loop-less-3 Inv-loop μ-loop
+loop-less-3 c = search sizings
+
+-- src/lib.rt:54:5
+loop-again-3 : tie.Need-loop-again-3 Inv-loop μ-loop
+loop-again-3 c = (search sizings, search sizings)
+
+-- src/lib.rt:84:19
+add-t21 : tie.Need-add-t21 Inv-loop μ-loop
+add-t21 c = search sizings
+
+-- src/lib.rt:84:36
 bytes-requires : tie.Need-bytes-requires Inv-loop μ-loop
 bytes-requires c κs = search sizings
 
--- src/writer.rt:82:27
-cast-c : tie.Need-cast-c Inv-loop μ-loop
-cast-c c = search sizings
+-- src/lib.rt:84:36
+cast-t23 : tie.Need-cast-t23 Inv-loop μ-loop
+cast-t23 c = search sizings
 
--- src/writer.rt:82:18
-mul-need : tie.Need-mul-need Inv-loop μ-loop
-mul-need c = search sizings
+-- src/lib.rt:84:18
+mul-t24 : tie.Need-mul-t24 Inv-loop μ-loop
+mul-t24 c = search sizings
 
--- src/writer.rt:53:1
+-- src/lib.rt:44:1
 returns-2 : tie.Need-returns-2 Inv-loop μ-loop
 returns-2 c = search sizings
 
@@ -116,16 +141,23 @@ size-spec =
     returns
     enum-told
     pack-requires
-    added-requires
-    add-words
-    after-requires
+    enum-told-2
     add-least
     add-i
     loop-less
     loop-again
-    waiting-requires
-    add-total
+    enum-known-packed
+    add-words
+    loop-less-2
+    loop-again-2
+    enum-known-packed-2
+    add-words-2
+    add-least-2
+    add-i-2
+    loop-less-3
+    loop-again-3
+    add-t21
     bytes-requires
-    cast-c
-    mul-need
+    cast-t23
+    mul-t24
     returns-2)

@@ -7,58 +7,58 @@ use Rattle.relr_write.proofs.write_class.Lts as lts
 use Rattle.answer.proofs.accept.Reads as accept-reads
 use Rattle.answer.proofs.refuse.Reads as refuse-reads
 use Rattle.answer.proofs.short_of.Reads as short-of-reads
-use Rattle.relr_write.proofs.put.Reads as put-reads
-use Rattle.relr_write.proofs.size.Reads as size-reads
+use Rattle.relr_write.proofs.fill.Reads as fill-reads
+use Rattle.relr_write.proofs.measure.Reads as measure-reads
 
--- src/writer.rt:139:9
+-- src/lib.rt:191:9
 refuse-requires : tie.Need-refuse-requires
 refuse-requires c κs = search needs
 
--- src/writer.rt:139:9
+-- src/lib.rt:191:9
 returns : tie.Need-returns
 returns c = search writes
 
--- src/writer.rt:141:9
-size-requires : tie.Need-size-requires
-size-requires c κs = search needs
+-- src/lib.rt:193:9
+measure-requires : tie.Need-measure-requires
+measure-requires c κs = search needs
 
--- src/writer.rt:143:24
+-- src/lib.rt:195:24
 enum-known-found : tie.Need-enum-known-found
 enum-known-found c = search needs
 
--- src/writer.rt:143:36
+-- src/lib.rt:195:36
 refuse-requires-2 : tie.Need-refuse-requires-2
 refuse-requires-2 c κs = search needs
 
--- src/writer.rt:144:22
+-- src/lib.rt:196:22
 enum-known-found-2 : tie.Need-enum-known-found-2
 enum-known-found-2 c = search needs
 
--- src/writer.rt:146:17
+-- src/lib.rt:198:17
 short-of-requires : tie.Need-short-of-requires
 short-of-requires c κs = search needs
 
--- src/writer.rt:146:17
+-- src/lib.rt:198:17
 returns-2 : tie.Need-returns-2
 returns-2 c = search writes
 
--- src/writer.rt:148:13
-put-requires : tie.Need-put-requires
-put-requires c κs = search writes
+-- src/lib.rt:200:13
+fill-requires : tie.Need-fill-requires
+fill-requires c κs = search writes
 
--- src/writer.rt:149:13
+-- src/lib.rt:201:13
 accept-requires : tie.Need-accept-requires
 accept-requires c κs = search needs
 
--- src/writer.rt:135:1
+-- src/lib.rt:187:1
 returns-3 : tie.Need-returns-3
 returns-3 c = search writes
 
--- src/writer.rt:135:1
+-- src/lib.rt:187:1
 same-length : tie.Need-same-length
 same-length c = search needs
 
--- src/writer.rt:135:1
+-- src/lib.rt:187:1
 returns-4 : tie.Need-returns-4
 returns-4 c = search writes
 
@@ -68,13 +68,13 @@ write-class-spec =
     (tie.spec
     refuse-requires
     returns
-    size-requires
+    measure-requires
     enum-known-found
     refuse-requires-2
     enum-known-found-2
     short-of-requires
     returns-2
-    put-requires
+    fill-requires
     accept-requires
     returns-3
     same-length

@@ -1,53 +1,38 @@
 use Rattle.relr_write.proofs.PackNeeds.{locating}
+use borrow.Author.Needs.{needs}
 use Rattle.relr_write.proofs.packer.locate.Statement.{statement}
 use Rattle.relr_write.proofs.packer.locate.Tie as tie
 use Rattle.relr_write.proofs.packer.locate.Reads as reads
 use Rattle.relr_write.proofs.packer.locate.Lts as lts
-use Rattle.relr_table.proofs.place.rest.Reads as rest-reads
-use Rattle.relr_table.proofs.place.whole.Reads as whole-reads
+use Rattle.relr_write.proofs.packer.turned.Reads as turned-reads
+use Rattle.std.proofs.num.wrapping_sub_u64.Reads as wrapping-sub-u64-reads
 use Rattle.word.proofs.Class.window.Reads as window-reads
 
--- src/packer.rt:45:9
+-- src/packer.rt:53:9
+wrapping-sub-u64-requires : tie.Need-wrapping-sub-u64-requires
+wrapping-sub-u64-requires c κs = search needs
+
+-- src/packer.rt:54:9
+turned-requires : tie.Need-turned-requires
+turned-requires c κs = search needs
+
+-- src/packer.rt:55:12
+window-requires : tie.Need-window-requires
+window-requires c κs = search needs
+
+-- src/packer.rt:55:12
+cast-if1 : tie.Need-cast-if1
+cast-if1 c = search needs
+
+-- src/packer.rt:56:9
 returns : tie.Need-returns
 returns c = search locating
 
--- src/packer.rt:48:12
-rest-requires : tie.Need-rest-requires
-rest-requires c κs = search locating
-
--- src/packer.rt:49:9
+-- src/packer.rt:49:1
 returns-2 : tie.Need-returns-2
 returns-2 c = search locating
-
--- src/packer.rt:51:9
-whole-requires : tie.Need-whole-requires
-whole-requires c κs = search locating
-
--- src/packer.rt:52:12
-window-requires : tie.Need-window-requires
-window-requires c κs = search locating
-
--- src/packer.rt:52:12
-cast-if3 : tie.Need-cast-if3
-cast-if3 c = search locating
-
--- src/packer.rt:53:9
-returns-3 : tie.Need-returns-3
-returns-3 c = search locating
-
--- src/packer.rt:40:1
-returns-4 : tie.Need-returns-4
-returns-4 c = search locating
 
 pub locate-spec : {M : Type 1} → statement M
 locate-spec =
     tie.close
-    (tie.spec
-    returns
-    rest-requires
-    returns-2
-    whole-requires
-    window-requires
-    cast-if3
-    returns-3
-    returns-4)
+    (tie.spec wrapping-sub-u64-requires turned-requires window-requires cast-if1 returns returns-2)
