@@ -24,7 +24,7 @@ use Rattle.relr_write.specs.declared.packer.Location.{Location}
 use Rattle.relr_write.specs.declared.packer.Location.the-variants.{On, Off}
 use Rattle.relr_write.specs.declared.packer.Pending.{Pending}
 use Rattle.relr_write.specs.declared.packer.Packed.the-variants.{Joined, Flushed, Alone}
-use Rattle.relr_write.specs.Inner.{Turned, Near, fallsAt, Located, LocatedAt, Small, ForwardFrom, wordsFor, Bits, Holding, Adds, Precedes, Acts, Packs}
+use Rattle.relr_write.specs.Inner.{InWords, Near, fallsAt, Located, LocatedAt, Small, ForwardFrom, wordsFor, Bits, Holding, Adds, Precedes, Acts, Packs}
 use Rattle.relr_table.proofs.Marked.{falls-on, on-falls}
 use Rattle.relr_table.proofs.Steps.{falls-low, write-join, write-flush, write-word}
 use Rattle.relr_table.proofs.PlaceNeeds.{stands-within, bitmap-in}
@@ -34,20 +34,20 @@ pub bit-is : {j : ℕ} → j < 63 → 1 * 2 ^ j % 2 ^ 64 ≡ 2 ^ j
 bit-is {j} h = shl-exact 1 j 64 (omega arith) (omega arith) ∙ omega arith
 
 -- ---- a distance in words
-turned-by-four : (d : ℕ) → Turned Four d (d / 4 + d % 4 * 4611686018427387904)
-turned-by-four d = record { whole = λ z. omega arith; part = λ h. omega arith }
+words-by-four : (d : ℕ) → InWords Four d (d / 4 + d % 4 * 4611686018427387904)
+words-by-four d = record { whole = λ z. omega arith; part = λ h. omega arith }
 
-turned-by-eight : (d : ℕ) → Turned Eight d (d / 8 + d % 8 * 2305843009213693952)
-turned-by-eight d = record { whole = λ z. omega arith; part = λ h. omega arith }
+words-by-eight : (d : ℕ) → InWords Eight d (d / 8 + d % 8 * 2305843009213693952)
+words-by-eight d = record { whole = λ z. omega arith; part = λ h. omega arith }
 
 module _ {k : Class} {d : ℕ} where
-  pub turned-four : k ≡ Four → Turned k d (d / 4 + d % 4 * 4611686018427387904)
-  turned-four e = subst (λ (i : Class). Turned i d (d / 4 + d % 4 * 4611686018427387904)) (sym e) (turned-by-four d)
+  pub words-four : k ≡ Four → InWords k d (d / 4 + d % 4 * 4611686018427387904)
+  words-four e = subst (λ (i : Class). InWords i d (d / 4 + d % 4 * 4611686018427387904)) (sym e) (words-by-four d)
 
-  pub turned-eight : k ≡ Eight → Turned k d (d / 8 + d % 8 * 2305843009213693952)
-  turned-eight e = subst (λ (i : Class). Turned i d (d / 8 + d % 8 * 2305843009213693952)) (sym e) (turned-by-eight d)
+  pub words-eight : k ≡ Eight → InWords k d (d / 8 + d % 8 * 2305843009213693952)
+  words-eight e = subst (λ (i : Class). InWords i d (d / 8 + d % 8 * 2305843009213693952)) (sym e) (words-by-eight d)
 
--- the turned distance fits a word
+-- the result fits a word
 low-fits : (u m b c : ℕ) → u < b → m < c → c * b ≡ 2 ^ 64 → u + m * b < 2 ^ 64
 low-fits u m b c h g e = omega (arith, mul-le-mul-right b g)
 
@@ -58,7 +58,7 @@ module _ (d : ℕ) (h : d < 2 ^ 64) where
   pub fits-eight : Fits w64 (d / 8 + d % 8 * 2305843009213693952)
   fits-eight = record { fits = low-fits (d / 8) (d % 8) 2305843009213693952 8 (omega arith) (omega arith) refl }
 
-pub ruleset turning = (turned-four, turned-eight, fits-four, fits-eight, needs)
+pub ruleset distances = (words-four, words-eight, fits-four, fits-eight, needs)
 
 -- ---- the location of an offset
 and-false : (b : Bool) → (b && false) ≡ false
@@ -84,7 +84,7 @@ off-low k p x h l w (unset e f) = rw e
 off-low k p x h l w (past v e g f) = rw e (falls-low (bytesOf k) (windowOf k) v x (omega arith))
 
 -- d is the distance from the place, wrapped, and j that in words
-module _ (k : Class) (p : Place) (x d j n : ℕ) (h : x + bytesOf k ≤ spaceOf k) (de : (d + p) % 2 ^ 64 ≡ x) (tu : Turned k d j) (ne : n ≡ windowOf k) where
+module _ (k : Class) (p : Place) (x d j n : ℕ) (h : x + bytesOf k ≤ spaceOf k) (de : (d + p) % 2 ^ 64 ≡ x) (tu : InWords k d j) (ne : n ≡ windowOf k) where
   inside : p ≤ x → p + bytesOf k ≤ spaceOf k
   inside l = omega arith
 

@@ -24,7 +24,7 @@ use Rattle.relr_table.specs.Table.{spaceOf, checked}
 use Rattle.relr_table.specs.Place.{Place, Stands}
 
 -- r is a distance in words, or, where that is not whole words, no number of a window
-pub record Turned (k : Class) (d r : ℕ) : Type 0 where
+pub record InWords (k : Class) (d r : ℕ) : Type 0 where
   pub whole : d % bytesOf k ≡ 0 → r ≡ d / bytesOf k
   pub part : r < windowOf k → d % bytesOf k ≡ 0
 

@@ -4,7 +4,7 @@ ghost use Prim.Native.Nat.{_+_, _%_, _^_, _≤_, _<_};
 ghost use lib.ListN.{length};
 ghost use Rattle.word.specs.Class.{bytesOf};
 ghost use Rattle.relr_table.specs.Table.{spaceOf};
-ghost use Rattle.relr_write.specs.Inner.{Turned, Near, LocatedAt, Small, ForwardFrom, Packs};
+ghost use Rattle.relr_write.specs.Inner.{InWords, Near, LocatedAt, Small, ForwardFrom, Packs};
 use relr_table::place;
 use word::Class;
 
@@ -36,8 +36,8 @@ fn bit(j: u64) -> u64
 }
 
 // A distance in words, or, where it is not whole words, a number past every window: the bits below a word come to the top.
-fn turned(k: Class, d: u64) -> u64
-    ensures { λ r. ⌜ Turned k d r ⌝ }
+fn in_words(k: Class, d: u64) -> u64
+    ensures { λ r. ⌜ InWords k d r ⌝ }
 {
     match k {
         Class::Four => d / 4 + d % 4 * 4611686018427387904,
@@ -51,7 +51,7 @@ fn locate(k: Class, place: u64, x: u64) -> Location
     ensures { λ r. ⌜ LocatedAt k place x r × Small r ⌝ }
 {
     let d = std::num::wrapping_sub_u64(x, place);
-    let j = turned(k, d);
+    let j = in_words(k, d);
     if j < k.window() as u64 {
         return Location::On(j);
     }

@@ -4,7 +4,7 @@ use Rattle.relr_write.proofs.packer.locate.Statement.{statement}
 use Rattle.relr_write.proofs.packer.locate.Tie as tie
 use Rattle.relr_write.proofs.packer.locate.Reads as reads
 use Rattle.relr_write.proofs.packer.locate.Lts as lts
-use Rattle.relr_write.proofs.packer.turned.Reads as turned-reads
+use Rattle.relr_write.proofs.packer.in_words.Reads as in-words-reads
 use Rattle.std.proofs.num.wrapping_sub_u64.Reads as wrapping-sub-u64-reads
 use Rattle.word.proofs.Class.window.Reads as window-reads
 
@@ -13,8 +13,8 @@ wrapping-sub-u64-requires : tie.Need-wrapping-sub-u64-requires
 wrapping-sub-u64-requires c κs = search needs
 
 -- src/packer.rt:54:9
-turned-requires : tie.Need-turned-requires
-turned-requires c κs = search needs
+in-words-requires : tie.Need-in-words-requires
+in-words-requires c κs = search needs
 
 -- src/packer.rt:55:12
 window-requires : tie.Need-window-requires
@@ -35,4 +35,4 @@ returns-2 c = search locating
 pub locate-spec : {M : Type 1} → statement M
 locate-spec =
     tie.close
-    (tie.spec wrapping-sub-u64-requires turned-requires window-requires cast-if1 returns returns-2)
+    (tie.spec wrapping-sub-u64-requires in-words-requires window-requires cast-if1 returns returns-2)
