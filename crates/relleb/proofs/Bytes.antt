@@ -1,9 +1,9 @@
 -- The needs of the writers of a record's numbers, as the code asks them.
 -- Assumes nothing.
 use Prim.Native.Nat.{ℕ, _+_, _-_, _^_, _≤_, _<_}
-use mathlib.Core.Path.{_≡_, refl, ap, ap₂, sym, _∙_}
+use mathlib.Core.Path.{_≡_, ap, ap₂, sym, _∙_}
 use mathlib.Core.Bool.{Bool, true, false, not}
-use mathlib.Core.List.{List, [], _∷_, _++_, append-nil}
+use mathlib.Core.List.{List, [], _++_, append-nil}
 use native.Mathlib.Omega.{arith}
 use lib.Dec.{ltb}
 use lib.IntN.{ℤ, pos, negsuc, _-ℤ_}
@@ -20,12 +20,12 @@ use Rattle.leb128.specs.Number.{shortUnsigned, shortSigned, isNeg, Written}
 use Rattle.leb128.proofs.Laws.{written-then}
 use Rattle.leb128.proofs.RoundTrip.{unsigned-bytes, signed-bytes}
 use Rattle.leb128.proofs.Signs.{minus-is}
-use Rattle.records.specs.Writing.{Put, bytes}
+use Rattle.records.specs.Writing.{bytes}
 use Rattle.records.specs.Writing as Writing
 use Rattle.wrap.specs.Wrap.{residue, wrapped, same}
-use Rattle.relleb.specs.Table.{Row, row, State, state, fieldOf, changeBytes, symbolBytes, typeBytes, fieldBytes, entryBytes, putOf}
+use Rattle.relleb_table.specs.Table.{row, state, fieldOf, changeBytes, symbolBytes, typeBytes, fieldBytes, putOf}
 use Rattle.relleb.specs.Inner.{Measured}
-use Rattle.relleb.specs.Table.Laws.{put-space, put-addend, put-bytes, entry-is, field-is, symbol-bytes, type-bytes, offset-bytes, field-bytes, change-none, change-some}
+use Rattle.relleb_table.specs.Table.Laws.{put-space, put-addend, put-bytes, entry-is, field-is, symbol-bytes, type-bytes, offset-bytes, field-bytes, change-none, change-some}
 
 abbrev Bits : ℤ → ℤ
 Bits z = toZ w64 (ofZ w64 z)

@@ -5,7 +5,6 @@ use Prim.Native.Nat.{ℕ, _+_, _%_, _^_, _<_}
 use mathlib.Core.Path.{_≡_, refl, ap, ap₂, sym, _∙_, subst}
 use mathlib.Core.Bool.{Bool, true, false}
 use mathlib.Core.List.{List}
-use native.Mathlib.Omega.{arith}
 use lib.IntN.{ℤ, pos, negsuc, _+ℤ_, _-ℤ_, natAbs}
 use lib.Dec.{T}
 use lib.Signed.{mag, ltZ, nonNeg}
@@ -25,9 +24,9 @@ use Rattle.records.specs.Reading.{Step, one}
 use Rattle.wrap.specs.Wrap.{residue, wrapped}
 use Rattle.wrap.specs.Wrap.Laws.{residue-lt}
 use Rattle.relleb.specs.declared.reader.Entry.{Entry}
-use Rattle.relleb.specs.declared.reader.Entry.the-variants.{Record, Refused}
-use Rattle.relleb.specs.Table.{Row, row, State, state, addendOf, symbolOf, typeOf, offsetOf, stepAt}
-use Rattle.relleb.specs.Table.Laws.{addend-not, addend-is, symbol-not, symbol-same, symbol-other, type-not, type-is, offset-not, offset-is, step-is}
+use Rattle.relleb.specs.declared.reader.Entry.the-variants.{Refused}
+use Rattle.relleb_table.specs.Table.{Row, row, State, state, addendOf, symbolOf, typeOf, stepAt}
+use Rattle.relleb_table.specs.Table.Laws.{addend-not, addend-is, symbol-not, symbol-same, symbol-other, type-not, type-is, offset-not, offset-is, step-is}
 use Rattle.relleb.specs.Inner.{entryStep, entryWithout, entryWithoutOffset, signedWithout, Skips}
 
 -- ---- a number that is refused

@@ -2,4 +2,3 @@ pub mod Entry
 pub mod Pass
 pub mod Bytes
 pub mod Put
-pub mod Laws

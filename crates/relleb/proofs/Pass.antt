@@ -4,7 +4,7 @@ use Prim.Native.Nat.{ℕ, _+_, _-_, _*_, _^_, _≤_, _<_}
 use mathlib.Core.Path.{_≡_, refl, ap, sym, _∙_, subst}
 use mathlib.Core.List.{List, [], _∷_, _++_}
 use native.Mathlib.Omega.{arith}
-use lib.IntN.{ℤ, pos}
+use lib.IntN.{ℤ}
 use lib.ListN.{length, set}
 use mir.Syntax.{w64}
 use mir.Val.{toZ, ofZ, Fits}
@@ -22,15 +22,16 @@ use Rattle.leb128.specs.declared.Unsigned.{Unsigned}
 use Rattle.leb128.specs.declared.Unsigned.the-variants.{Value as UValue, Refused as URefused}
 use Rattle.records.specs.Columns.{Column}
 use Rattle.records.specs.Columns.Laws.{column-none, column-next, column-same, column-filled}
-use Rattle.records.specs.Reading.{one, none, records, uncounted}
+use Rattle.records.specs.Reading.{records, uncounted}
 use Rattle.records.specs.Reading.Laws.{counted-records, counted-not}
 use Rattle.records.proofs.Reading.{Scanned, scanned-none, scanned-more, scanned-bad, scanned-end, scanned-over, Stored, stored-none, stored-within, stored-more, stored-in, stored-bad, stored-end, count-not}
 use Rattle.relleb.specs.declared.reader.Entry.{Entry}
 use Rattle.relleb.specs.declared.reader.Entry.the-variants.{Record, Refused}
-use Rattle.relleb.specs.Table.{Row, State, row, state, start, stepAt, decode}
-use Rattle.relleb.specs.Table.Laws.{decode-is}
-use Rattle.relleb.specs.Contract.{offsetIn, typeIn, symbolIn, addendIn, Filled}
-use Rattle.relleb.specs.Inner.{entryStep, Fillable, Skips}
+use Rattle.relleb_table.specs.Table.{Row, State, row, state, start, stepAt, decode}
+use Rattle.relleb_table.specs.Table.Laws.{decode-is}
+use Rattle.relleb_table.specs.Contract.{offsetIn, typeIn, symbolIn, addendIn, Filled}
+use Rattle.relleb_table.specs.Inner.{Fillable}
+use Rattle.relleb.specs.Inner.{entryStep, Skips}
 
 -- the records of a table that has so many from a place on
 abbrev pub body : ℕ → List ℕ → ℕ → ℕ → Outcome (List Row)

@@ -1,8 +1,8 @@
 -- What the writer's passes go by, as the code asks it: x is what `fields_of` returned. A loop has the bits of the addend before, w.
 -- Assumes nothing.
-use Prim.Native.Nat.{ℕ, _+_, _*_, _^_, _≤_, _<_}
-use mathlib.Core.Path.{_≡_, refl, ap, sym, _∙_}
-use mathlib.Core.List.{List, [], _∷_, _++_}
+use Prim.Native.Nat.{ℕ, _+_, _^_, _≤_, _<_}
+use mathlib.Core.Path.{_≡_, ap, sym, _∙_}
+use mathlib.Core.List.{List, _∷_}
 use native.Mathlib.Omega.{arith}
 use lib.IntN.{ℤ, pos}
 use lib.ListN.{length, drop, getD}
@@ -17,14 +17,16 @@ use Rattle.answer.specs.Outcome.{Outcome, after, foundOf}
 use Rattle.leb128.specs.Number.{shortUnsigned, Written}
 use Rattle.leb128.proofs.RoundTrip.{unsigned-bytes}
 use Rattle.records.specs.Writing as Writing
-use Rattle.records.specs.Writing.{bytes, puts, Puts}
+use Rattle.records.specs.Writing.{puts, Puts}
 use Rattle.records.proofs.Writing.{Sized, sized-none, sized-more, sized-bad, sized-end, Putting, putting-none, putting-same, putting-bad, putting-room, putting-more, putting-end, head-room, body-room, both-written}
 use Rattle.relleb.specs.declared.writer.Fields.{Fields}
 use Rattle.relleb.specs.declared.writer.Fields.the-variants.{Numbers, Refused}
-use Rattle.relleb.specs.Table.{Row, row, state, start, behind, rows, fieldBytes, putOf, encode}
-use Rattle.relleb.specs.Table.Laws.{rows-length, rows-from, encode-is}
-use Rattle.relleb.specs.Contract.{Same, Listed}
-use Rattle.relleb.specs.Inner.{fieldsPut, Measured, Puttable}
+use Rattle.relleb_table.specs.Table.{Row, row, state, start, behind, rows, fieldBytes, putOf, encode}
+use Rattle.relleb_table.specs.Table.Laws.{rows-from, encode-is}
+use Rattle.relleb_table.specs.Contract.{Same, Listed}
+use Rattle.relleb_table.specs.Contract.Laws.{many}
+use Rattle.relleb_table.specs.Inner.{Puttable}
+use Rattle.relleb.specs.Inner.{fieldsPut, Measured}
 
 abbrev Bits : ℤ → ℤ
 Bits z = toZ w64 (ofZ w64 z)
@@ -34,9 +36,6 @@ abbrev rowAt : List ℕ → List ℕ → List ℕ → List ℤ → ℕ → Row
 rowAt os ts ys us i = row (getD os i 0) (getD ts i 0) (getD ys i 0) (Bits (getD us i (pos 0)))
 
 module _ (os ts ys : List ℕ) (us : List ℤ) (same : Same os ts ys us) where
-  pub many : length (rows os ts ys us) ≡ length os
-  many = rows-length os ts ys us (same .types) (same .symbols) (same .addends)
-
   here : (i : ℕ) → i < length os → mag (getD us i (pos 0)) < 2 ^ 63 → drop i (rows os ts ys us) ≡ rowAt os ts ys us i ∷ drop (i + 1) (rows os ts ys us)
   here i h m =
       rows-from os ts ys us (same .types) (same .symbols) (same .addends) i h

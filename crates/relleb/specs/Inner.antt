@@ -3,33 +3,20 @@
 use Prim.Native.Nat.{ℕ, _≤_}
 use mathlib.Core.Path.{_≡_}
 use mathlib.Core.List.{List}
-use lib.IntN.{ℤ}
 use lib.ListN.{length}
 use Rattle.answer.specs.declared.Refusal.the-variants.{Width}
-use Rattle.answer.specs.Outcome.{Outcome, refused}
 use Rattle.leb128.specs.declared.Signed.{Signed}
 use Rattle.leb128.specs.declared.Signed.the-variants.{Value as SValue, Refused as SRefused}
 use Rattle.leb128.specs.declared.Unsigned.{Unsigned}
 use Rattle.leb128.specs.declared.Unsigned.the-variants.{Value as UValue, Refused as URefused}
-use Rattle.records.specs.Reading.{Step, one, none, Fitting}
-use Rattle.records.specs.Writing.{Put, bytes, Fits}
+use Rattle.records.specs.Reading.{Step, one, none}
+use Rattle.records.specs.Writing.{Put, bytes}
 use Rattle.records.specs.Writing as Writing
 use Rattle.relleb.specs.declared.reader.Entry.{Entry}
 use Rattle.relleb.specs.declared.reader.Entry.the-variants.{Record, Refused}
 use Rattle.relleb.specs.declared.writer.Fields.{Fields}
 use Rattle.relleb.specs.declared.writer.Fields.the-variants.{Numbers, Refused as NoFields}
-use Rattle.relleb.specs.Table.{Row, row, State, state, fieldBytes, stepAt}
-use Rattle.relleb.specs.Contract.{Same}
-
--- an accepted list for which the columns have room
-pub record Fillable (o : Outcome (List Row)) (os ts ys : List ℕ) (us : List ℤ) : Type 0 where
-  pub fitting : Fitting o (length os)
-  pub same : Same os ts ys us
-
--- bytes that four columns have, and room for them at a place
-pub record Puttable (o : Outcome (List ℕ)) (os ts ys : List ℕ) (us : List ℤ) (buffer : List ℕ) (at : ℕ) : Type 0 where
-  pub same : Same os ts ys us
-  pub fits : Fits o buffer at
+use Rattle.relleb_table.specs.Table.{Row, row, State, state, fieldBytes, stepAt}
 
 -- r is how many bytes four numbers take; each takes at most ten
 pub record Measured (r : ℕ) (b : List ℕ) : Type 0 where

@@ -1,6 +1,6 @@
 // RELLEB, the packed table of whole relocation records: a count, and for each record its differences to the one before it.
 ghost use mathlib.Core.Path.{_≡_};
-ghost use Rattle.relleb.specs.Contract.{even, Reads, Writes};
+ghost use Rattle.relleb_table.specs.Contract.{even, Reads, Writes};
 use answer::Answer;
 use answer::Found;
 use answer::INPUT_LIMIT;

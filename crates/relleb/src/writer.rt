@@ -6,9 +6,10 @@ ghost use lib.ListN.{length};
 ghost use Rattle.answer.specs.Outcome.{pick, foundOf};
 ghost use Rattle.leb128.specs.Number.{IsWidth, Written};
 ghost use Rattle.records.specs.Writing.{puts, Puts};
-ghost use Rattle.relleb.specs.Table.{row, state, start, behind, rows, symbolBytes, typeBytes, fieldBytes, putOf, encode};
-ghost use Rattle.relleb.specs.Contract.{Listed};
-ghost use Rattle.relleb.specs.Inner.{fieldsPut, Measured, Puttable};
+ghost use Rattle.relleb_table.specs.Table.{row, state, start, behind, rows, symbolBytes, typeBytes, fieldBytes, putOf, encode};
+ghost use Rattle.relleb_table.specs.Contract.{Listed};
+ghost use Rattle.relleb_table.specs.Inner.{Puttable};
+ghost use Rattle.relleb.specs.Inner.{fieldsPut, Measured};
 use answer::Found;
 use answer::Refusal;
 

@@ -1,17 +1,7 @@
 use borrow.Author.Needs.{needs}
-use Rattle.relleb.specs.Contract.Laws.{writing, class-width, puttable}
+use Rattle.relleb_table.specs.Contract.Laws.{writing, class-width, puttable}
 use Rattle.relleb.proofs.write.Statement.{statement}
 use Rattle.relleb.proofs.write.Tie as tie
-use Rattle.relleb.proofs.write.Reads as reads
-use Rattle.relleb.proofs.write.Lts as lts
-use Rattle.answer.proofs.accept.Reads as accept-reads
-use Rattle.answer.proofs.refuse.Reads as refuse-reads
-use Rattle.answer.proofs.short_of.Reads as short-of-reads
-use Rattle.relleb.proofs.same_length.Reads as same-length-reads
-use Rattle.relleb.proofs.writer.fill.Reads as fill-reads
-use Rattle.relleb.proofs.writer.size.Reads as size-reads
-use Rattle.word.proofs.Class.bits.Reads as bits-reads
-use Rattle.word.proofs.Class.named.Reads as named-reads
 
 -- src/lib.rt:66:9
 named-requires : tie.Need-named-requires

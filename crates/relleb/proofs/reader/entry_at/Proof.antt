@@ -2,12 +2,6 @@ use borrow.Author.Needs.{needs}
 use Rattle.relleb.proofs.Entry.{offsets}
 use Rattle.relleb.proofs.reader.entry_at.Statement.{statement}
 use Rattle.relleb.proofs.reader.entry_at.Tie as tie
-use Rattle.relleb.proofs.reader.entry_at.Reads as reads
-use Rattle.relleb.proofs.reader.entry_at.Lts as lts
-use Rattle.leb128.proofs.read_unsigned.Reads as read-unsigned-reads
-use Rattle.relleb.proofs.reader.with_type.Reads as with-type-reads
-use Rattle.relleb.proofs.reader.without_offset.Reads as without-offset-reads
-use Rattle.wrap.proofs.add.Reads as add-reads
 
 -- src/reader.rt:98:9
 read-unsigned-requires : tie.Need-read-unsigned-requires

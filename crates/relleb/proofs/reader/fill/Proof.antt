@@ -2,10 +2,6 @@ use borrow.Author.Needs.{needs}
 use Rattle.relleb.proofs.Pass.{fills}
 use Rattle.relleb.proofs.reader.fill.Statement.{statement}
 use Rattle.relleb.proofs.reader.fill.Tie as tie
-use Rattle.relleb.proofs.reader.fill.Reads as reads
-use Rattle.relleb.proofs.reader.fill.Lts as lts
-use Rattle.leb128.proofs.read_unsigned.Reads as read-unsigned-reads
-use Rattle.relleb.proofs.reader.store.Reads as store-reads
 
 -- src/reader.rt:184:9
 read-unsigned-requires : tie.Need-read-unsigned-requires

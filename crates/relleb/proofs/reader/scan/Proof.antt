@@ -2,11 +2,6 @@ use borrow.Author.Needs.{needs}
 use Rattle.relleb.proofs.Pass.{fills}
 use Rattle.relleb.proofs.reader.scan.Statement.{statement}
 use Rattle.relleb.proofs.reader.scan.Tie as tie
-use Rattle.relleb.proofs.reader.scan.Reads as reads
-use Rattle.relleb.proofs.reader.scan.Lts as lts
-use Rattle.leb128.proofs.read_unsigned.Reads as read-unsigned-reads
-use Rattle.records.proofs.not_counted.Reads as not-counted-reads
-use Rattle.relleb.proofs.reader.walk.Reads as walk-reads
 
 -- src/reader.rt:140:9
 read-unsigned-requires : tie.Need-read-unsigned-requires

@@ -1,12 +1,6 @@
 use Rattle.relleb.proofs.Entry.{skips}
 use Rattle.relleb.proofs.reader.skip_at.Statement.{statement}
 use Rattle.relleb.proofs.reader.skip_at.Tie as tie
-use Rattle.relleb.proofs.reader.skip_at.Reads as reads
-use Rattle.relleb.proofs.reader.skip_at.Lts as lts
-use Rattle.leb128.proofs.is_negative.Reads as is-negative-reads
-use Rattle.leb128.proofs.read_signed.Reads as read-signed-reads
-use Rattle.leb128.proofs.read_unsigned.Reads as read-unsigned-reads
-use Rattle.relleb.proofs.reader.unread.Reads as unread-reads
 
 -- src/reader.rt:151:9
 read-unsigned-requires : tie.Need-read-unsigned-requires

@@ -1,9 +1,6 @@
 use Rattle.relleb.proofs.Pass.{Storing, stores}
 use Rattle.relleb.proofs.reader.store.Statement.{statement}
 use Rattle.relleb.proofs.reader.store.Tie as tie
-use Rattle.relleb.proofs.reader.store.Reads as reads
-use Rattle.relleb.proofs.reader.store.Lts as lts
-use Rattle.relleb.proofs.reader.entry_at.Reads as entry-at-reads
 
 abbrev Inv-loop : tie.InvT-loop
 Inv-loop s width count first offsets₀ types₀ symbols₀ addends₀ rest₀ from₀ offset₀ kind₀ addend₀ i₀ offsets types symbols addends rest from offset kind addend i =

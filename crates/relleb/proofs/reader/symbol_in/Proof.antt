@@ -1,9 +1,6 @@
-use borrow.Author.Needs.{needs}
 use Rattle.relleb.proofs.Entry.{fields, field-cast, field-cast-2}
 use Rattle.relleb.proofs.reader.symbol_in.Statement.{statement}
 use Rattle.relleb.proofs.reader.symbol_in.Tie as tie
-use Rattle.relleb.proofs.reader.symbol_in.Reads as reads
-use Rattle.relleb.proofs.reader.symbol_in.Lts as lts
 
 -- src/reader.rt:59:17
 sub-result : tie.Need-sub-result

@@ -1,8 +1,6 @@
 use Rattle.relleb.proofs.Entry.{unreads}
 use Rattle.relleb.proofs.reader.unread.Statement.{statement}
 use Rattle.relleb.proofs.reader.unread.Tie as tie
-use Rattle.relleb.proofs.reader.unread.Reads as reads
-use Rattle.relleb.proofs.reader.unread.Lts as lts
 
 -- src/reader.rt:141:27
 enum-known-number : tie.Need-enum-known-number

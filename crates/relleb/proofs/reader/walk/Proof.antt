@@ -1,9 +1,6 @@
 use Rattle.relleb.proofs.Pass.{Walking, walks}
 use Rattle.relleb.proofs.reader.walk.Statement.{statement}
 use Rattle.relleb.proofs.reader.walk.Tie as tie
-use Rattle.relleb.proofs.reader.walk.Reads as reads
-use Rattle.relleb.proofs.reader.walk.Lts as lts
-use Rattle.relleb.proofs.reader.skip_at.Reads as skip-at-reads
 
 abbrev Inv-loop : tie.InvT-loop
 Inv-loop s width count first left₀ at₀ left at = Walking width s count first left at

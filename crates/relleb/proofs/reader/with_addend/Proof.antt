@@ -2,11 +2,6 @@ use borrow.Author.Needs.{needs}
 use Rattle.relleb.proofs.Entry.{addends}
 use Rattle.relleb.proofs.reader.with_addend.Statement.{statement}
 use Rattle.relleb.proofs.reader.with_addend.Tie as tie
-use Rattle.relleb.proofs.reader.with_addend.Reads as reads
-use Rattle.relleb.proofs.reader.with_addend.Lts as lts
-use Rattle.leb128.proofs.read_signed.Reads as read-signed-reads
-use Rattle.relleb.proofs.reader.without.Reads as without-reads
-use Rattle.wrap.proofs.add_signed.Reads as add-signed-reads
 
 -- src/reader.rt:46:9
 read-signed-requires : tie.Need-read-signed-requires

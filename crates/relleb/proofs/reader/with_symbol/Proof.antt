@@ -2,13 +2,6 @@ use borrow.Author.Needs.{needs}
 use Rattle.relleb.proofs.Entry.{symbols}
 use Rattle.relleb.proofs.reader.with_symbol.Statement.{statement}
 use Rattle.relleb.proofs.reader.with_symbol.Tie as tie
-use Rattle.relleb.proofs.reader.with_symbol.Reads as reads
-use Rattle.relleb.proofs.reader.with_symbol.Lts as lts
-use Rattle.leb128.proofs.is_negative.Reads as is-negative-reads
-use Rattle.leb128.proofs.read_signed.Reads as read-signed-reads
-use Rattle.relleb.proofs.reader.symbol_in.Reads as symbol-in-reads
-use Rattle.relleb.proofs.reader.with_addend.Reads as with-addend-reads
-use Rattle.relleb.proofs.reader.without.Reads as without-reads
 
 -- src/reader.rt:69:9
 read-signed-requires : tie.Need-read-signed-requires

@@ -2,12 +2,6 @@ use borrow.Author.Needs.{needs}
 use Rattle.relleb.proofs.Entry.{types}
 use Rattle.relleb.proofs.reader.with_type.Statement.{statement}
 use Rattle.relleb.proofs.reader.with_type.Tie as tie
-use Rattle.relleb.proofs.reader.with_type.Reads as reads
-use Rattle.relleb.proofs.reader.with_type.Lts as lts
-use Rattle.leb128.proofs.read_signed.Reads as read-signed-reads
-use Rattle.relleb.proofs.reader.with_symbol.Reads as with-symbol-reads
-use Rattle.relleb.proofs.reader.without.Reads as without-reads
-use Rattle.wrap.proofs.moved.Reads as moved-reads
 
 -- src/reader.rt:85:9
 read-signed-requires : tie.Need-read-signed-requires

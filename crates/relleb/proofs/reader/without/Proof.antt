@@ -2,8 +2,6 @@ use borrow.Author.Needs.{needs}
 use Rattle.relleb.proofs.Entry.{withouts}
 use Rattle.relleb.proofs.reader.without.Statement.{statement}
 use Rattle.relleb.proofs.reader.without.Tie as tie
-use Rattle.relleb.proofs.reader.without.Reads as reads
-use Rattle.relleb.proofs.reader.without.Lts as lts
 
 -- src/reader.rt:27:25
 enum-known-number : tie.Need-enum-known-number

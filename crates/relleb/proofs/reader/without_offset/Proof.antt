@@ -2,8 +2,6 @@ use borrow.Author.Needs.{needs}
 use Rattle.relleb.proofs.Entry.{withouts}
 use Rattle.relleb.proofs.reader.without_offset.Statement.{statement}
 use Rattle.relleb.proofs.reader.without_offset.Tie as tie
-use Rattle.relleb.proofs.reader.without_offset.Reads as reads
-use Rattle.relleb.proofs.reader.without_offset.Lts as lts
 
 -- src/reader.rt:36:27
 enum-known-number : tie.Need-enum-known-number

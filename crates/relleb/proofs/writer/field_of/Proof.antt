@@ -2,8 +2,6 @@ use borrow.Author.Needs.{needs}
 use Rattle.relleb.proofs.Bytes.{symbols}
 use Rattle.relleb.proofs.writer.field_of.Statement.{statement}
 use Rattle.relleb.proofs.writer.field_of.Tie as tie
-use Rattle.relleb.proofs.writer.field_of.Reads as reads
-use Rattle.relleb.proofs.writer.field_of.Lts as lts
 
 -- src/writer.rt:26:16
 cast-result : tie.Need-cast-result

@@ -2,11 +2,6 @@ use borrow.Author.Needs.{needs}
 use Rattle.relleb.proofs.Bytes.{lengths}
 use Rattle.relleb.proofs.writer.fields_len.Statement.{statement}
 use Rattle.relleb.proofs.writer.fields_len.Tie as tie
-use Rattle.relleb.proofs.writer.fields_len.Reads as reads
-use Rattle.relleb.proofs.writer.fields_len.Lts as lts
-use Rattle.leb128.proofs.is_negative.Reads as is-negative-reads
-use Rattle.leb128.proofs.signed_len.Reads as signed-len-reads
-use Rattle.leb128.proofs.unsigned_len.Reads as unsigned-len-reads
 
 -- src/writer.rt:52:17
 unsigned-len-requires : tie.Need-unsigned-len-requires

@@ -2,15 +2,6 @@ use borrow.Author.Needs.{needs}
 use Rattle.relleb.proofs.Bytes.{fields}
 use Rattle.relleb.proofs.writer.fields_of.Statement.{statement}
 use Rattle.relleb.proofs.writer.fields_of.Tie as tie
-use Rattle.relleb.proofs.writer.fields_of.Reads as reads
-use Rattle.relleb.proofs.writer.fields_of.Lts as lts
-use Rattle.relleb.proofs.writer.field_of.Reads as field-of-reads
-use Rattle.wrap.proofs.distance.Reads as distance-reads
-use Rattle.wrap.proofs.equal.Reads as equal-reads
-use Rattle.wrap.proofs.sub.Reads as sub-reads
-use Rattle.wrap.proofs.sub_signed.Reads as sub-signed-reads
-use Rattle.wrap.proofs.within.Reads as within-reads
-use Rattle.wrap.proofs.within_signed.Reads as within-signed-reads
 
 -- src/writer.rt:36:9
 within-requires : tie.Need-within-requires

@@ -2,10 +2,6 @@ use borrow.Author.Needs.{needs}
 use Rattle.relleb.proofs.Put.{fills}
 use Rattle.relleb.proofs.writer.fill.Statement.{statement}
 use Rattle.relleb.proofs.writer.fill.Tie as tie
-use Rattle.relleb.proofs.writer.fill.Reads as reads
-use Rattle.relleb.proofs.writer.fill.Lts as lts
-use Rattle.leb128.proofs.write_unsigned.Reads as write-unsigned-reads
-use Rattle.relleb.proofs.writer.put_all.Reads as put-all-reads
 
 -- src/writer.rt:155:9
 write-unsigned-requires : tie.Need-write-unsigned-requires

@@ -3,10 +3,6 @@ use lib.ListN.{length}
 use Rattle.relleb.proofs.Put.{Filling, puttings}
 use Rattle.relleb.proofs.writer.put_all.Statement.{statement}
 use Rattle.relleb.proofs.writer.put_all.Tie as tie
-use Rattle.relleb.proofs.writer.put_all.Reads as reads
-use Rattle.relleb.proofs.writer.put_all.Lts as lts
-use Rattle.relleb.proofs.writer.fields_of.Reads as fields-of-reads
-use Rattle.relleb.proofs.writer.put_fields.Reads as put-fields-reads
 
 abbrev Inv-loop : tie.InvT-loop
 Inv-loop width offsets types symbols addends table₀ first n at₀ before₀ last₀ base₀ j₀ table at before last base j =

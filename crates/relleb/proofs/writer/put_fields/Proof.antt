@@ -2,10 +2,6 @@ use borrow.Author.Needs.{needs}
 use Rattle.relleb.proofs.Bytes.{offset-puts}
 use Rattle.relleb.proofs.writer.put_fields.Statement.{statement}
 use Rattle.relleb.proofs.writer.put_fields.Tie as tie
-use Rattle.relleb.proofs.writer.put_fields.Reads as reads
-use Rattle.relleb.proofs.writer.put_fields.Lts as lts
-use Rattle.leb128.proofs.write_unsigned.Reads as write-unsigned-reads
-use Rattle.relleb.proofs.writer.put_type.Reads as put-type-reads
 
 -- src/writer.rt:83:9
 write-unsigned-requires : tie.Need-write-unsigned-requires

@@ -2,10 +2,6 @@ use borrow.Author.Needs.{needs}
 use Rattle.relleb.proofs.Bytes.{symbol-puts}
 use Rattle.relleb.proofs.writer.put_symbol.Statement.{statement}
 use Rattle.relleb.proofs.writer.put_symbol.Tie as tie
-use Rattle.relleb.proofs.writer.put_symbol.Reads as reads
-use Rattle.relleb.proofs.writer.put_symbol.Lts as lts
-use Rattle.leb128.proofs.is_negative.Reads as is-negative-reads
-use Rattle.leb128.proofs.write_signed.Reads as write-signed-reads
 
 -- src/writer.rt:64:9
 write-signed-requires : tie.Need-write-signed-requires

@@ -2,10 +2,6 @@ use borrow.Author.Needs.{needs}
 use Rattle.relleb.proofs.Bytes.{type-puts}
 use Rattle.relleb.proofs.writer.put_type.Statement.{statement}
 use Rattle.relleb.proofs.writer.put_type.Tie as tie
-use Rattle.relleb.proofs.writer.put_type.Reads as reads
-use Rattle.relleb.proofs.writer.put_type.Lts as lts
-use Rattle.leb128.proofs.write_signed.Reads as write-signed-reads
-use Rattle.relleb.proofs.writer.put_symbol.Reads as put-symbol-reads
 
 -- src/writer.rt:75:9
 write-signed-requires : tie.Need-write-signed-requires

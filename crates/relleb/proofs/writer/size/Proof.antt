@@ -3,11 +3,6 @@ use lib.ListN.{length}
 use Rattle.relleb.proofs.Put.{Sizing, sizes, size-bad}
 use Rattle.relleb.proofs.writer.size.Statement.{statement}
 use Rattle.relleb.proofs.writer.size.Tie as tie
-use Rattle.relleb.proofs.writer.size.Reads as reads
-use Rattle.relleb.proofs.writer.size.Lts as lts
-use Rattle.leb128.proofs.unsigned_len.Reads as unsigned-len-reads
-use Rattle.relleb.proofs.writer.fields_len.Reads as fields-len-reads
-use Rattle.relleb.proofs.writer.fields_of.Reads as fields-of-reads
 
 abbrev Inv-loop : tie.InvT-loop
 Inv-loop width offsets types symbols addends n total₀ before₀ last₀ base₀ i₀ total before last base i =
