@@ -1,4 +1,2 @@
 pub mod Entry
 pub mod Pass
-pub mod Bytes
-pub mod Put

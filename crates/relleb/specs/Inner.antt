@@ -1,32 +1,17 @@
 -- What the inner functions promise.
 -- Assumes nothing.
-use Prim.Native.Nat.{ℕ, _≤_}
+use Prim.Native.Nat.{ℕ}
 use mathlib.Core.Path.{_≡_}
 use mathlib.Core.List.{List}
-use lib.ListN.{length}
 use Rattle.answer.specs.declared.Refusal.the-variants.{Width}
 use Rattle.leb128.specs.declared.Signed.{Signed}
 use Rattle.leb128.specs.declared.Signed.the-variants.{Value as SValue, Refused as SRefused}
 use Rattle.leb128.specs.declared.Unsigned.{Unsigned}
 use Rattle.leb128.specs.declared.Unsigned.the-variants.{Value as UValue, Refused as URefused}
 use Rattle.records.specs.Reading.{Step, one, none}
-use Rattle.records.specs.Writing.{Put, bytes}
-use Rattle.records.specs.Writing as Writing
 use Rattle.relleb.specs.declared.reader.Entry.{Entry}
 use Rattle.relleb.specs.declared.reader.Entry.the-variants.{Record, Refused}
-use Rattle.relleb.specs.declared.writer.Fields.{Fields}
-use Rattle.relleb.specs.declared.writer.Fields.the-variants.{Numbers, Refused as NoFields}
-use Rattle.relleb_table.specs.Table.{Row, row, State, state, fieldBytes, stepAt}
-
--- r is how many bytes four numbers take; each takes at most ten
-pub record Measured (r : ℕ) (b : List ℕ) : Type 0 where
-  pub is : r ≡ length b
-  pub few : r ≤ 40
-
--- the bytes of a record's numbers
-abbrev pub fieldsPut : Fields → Put
-fieldsPut (Numbers d t f a) = bytes (fieldBytes d t f a)
-fieldsPut (NoFields why) = Writing.none why
+use Rattle.relleb_table.specs.Table.{Row, row, State, state, stepAt}
 
 -- what the reader of one record says
 abbrev pub entryStep : Entry → Step State Row

@@ -10,7 +10,6 @@ use word::Class;
 use word::Named;
 
 mod reader;
-mod writer;
 
 // Whether four columns have one length.
 fn same_length(offsets: usize, types: usize, symbols: usize, addends: usize) -> bool
@@ -81,13 +80,13 @@ pub fn write(
         return answer::refuse(Refusal::Limit, 0);
     }
     let width = kind.bits();
-    match writer::size(width, offsets, types, symbols, addends) {
+    match relleb_write::size(width, offsets, types, symbols, addends) {
         Found::Refused(why, place) => answer::refuse(why, place),
         Found::Count(need) => {
             if (table.len() as u64) < need {
                 return answer::short_of(need);
             }
-            writer::fill(width, offsets, types, symbols, addends, table);
+            relleb_write::fill(width, offsets, types, symbols, addends, table);
             answer::accept(need)
         }
     }

@@ -1,4 +1,4 @@
-// The writer: a first pass that counts the table's bytes, and a second that puts them. The width is the class's.
+// The writer of RELLEB tables: a first pass that counts the table's bytes, and a second that puts them. The width is the class's.
 ghost use mathlib.Core.Path.{_≡_};
 ghost use Prim.Native.Nat.{_+_, _≤_};
 ghost use lib.IntN.{pos, negsuc};
@@ -9,7 +9,7 @@ ghost use Rattle.records.specs.Writing.{puts, Puts};
 ghost use Rattle.relleb_table.specs.Table.{row, state, start, behind, rows, symbolBytes, typeBytes, fieldBytes, putOf, encode};
 ghost use Rattle.relleb_table.specs.Contract.{Listed};
 ghost use Rattle.relleb_table.specs.Inner.{Puttable};
-ghost use Rattle.relleb.specs.Inner.{fieldsPut, Measured};
+ghost use Rattle.relleb_write.specs.Inner.{fieldsPut, Measured};
 use answer::Found;
 use answer::Refusal;
 
