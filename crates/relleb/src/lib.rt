@@ -9,8 +9,6 @@ use answer::Refusal;
 use word::Class;
 use word::Named;
 
-mod reader;
-
 // Whether four columns have one length.
 fn same_length(offsets: usize, types: usize, symbols: usize, addends: usize) -> bool
     ensures { λ r. ⌜ r ≡ even offsets types symbols addends ⌝ }
@@ -46,13 +44,13 @@ pub fn read(
         return answer::refuse(Refusal::Limit, 0);
     }
     let width = kind.bits();
-    match reader::scan(table, width) {
+    match relleb_read::scan(table, width) {
         Found::Refused(why, place) => answer::refuse(why, place),
         Found::Count(count) => {
             if (offsets.len() as u64) < count {
                 return answer::short_of(count);
             }
-            reader::fill(table, width, offsets, types, symbols, addends);
+            relleb_read::fill(table, width, offsets, types, symbols, addends);
             answer::accept(count)
         }
     }
