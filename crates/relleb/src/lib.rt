@@ -77,8 +77,12 @@ pub fn write(
     if LIST_LIMIT < offsets.len() {
         return answer::refuse(Refusal::Limit, 0);
     }
+    let found = match kind {
+        Class::Four => relleb_write::size(32, offsets, types, symbols, addends),
+        Class::Eight => relleb_write::size(64, offsets, types, symbols, addends),
+    };
     let width = kind.bits();
-    match relleb_write::size(width, offsets, types, symbols, addends) {
+    match found {
         Found::Refused(why, place) => answer::refuse(why, place),
         Found::Count(need) => {
             if (table.len() as u64) < need {
