@@ -23,7 +23,7 @@ use Rattle.records.specs.Writing.{putThen, puts}
 use Rattle.wrap.specs.Wrap.{residue, signedIn, same}
 use Rattle.apr1.specs.Table as apr1
 use Rattle.apa1.specs.Table as apa1
-use Rattle.relleb.specs.Table as relleb
+use Rattle.relleb_table.specs.Table as relleb
 
 -- a row: what is written and what it stands for, to be read and to be written; or an image before and after a table is applied
 pub data Case : Type 0 where

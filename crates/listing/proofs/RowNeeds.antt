@@ -14,7 +14,7 @@ use mir.Syntax.{w64}
 use mir.Val.{SFits}
 use mir.Facts.{toZ-ofZ}
 use borrow.Author.Needs.{needs, sfits-of}
-use Rattle.relleb.specs.Table.{Row, row}
+use Rattle.relleb_table.specs.Table.{Row, row}
 use Rattle.listing.specs.declared.kind.Kind.{Kind}
 use Rattle.listing.specs.Text.{decimal, decimalSigned, hasType, hasAddend, header, field, rowText, rowAt, rowsTo}
 use Rattle.listing.specs.Inner.{Puts, Room}

@@ -21,10 +21,10 @@ use Rattle.apr1.specs.Contract as apr1
 use Rattle.apa1.specs.Table as apa1
 use Rattle.apa1.specs.Contract as apa1-contract
 use Rattle.apa1.specs.Contract.Laws as apa1-laws
-use Rattle.relleb.specs.Table as relleb
-use Rattle.relleb.specs.Table.{Row, row}
-use Rattle.relleb.specs.Contract as relleb-contract
-use Rattle.relleb.specs.Contract.Laws as relleb-laws
+use Rattle.relleb_table.specs.Table as relleb
+use Rattle.relleb_table.specs.Table.{Row, row}
+use Rattle.relleb_table.specs.Contract as relleb-contract
+use Rattle.relleb_table.specs.Contract.Laws as relleb-laws
 use Rattle.word.specs.Class.{bitsOf, classOf}
 use Rattle.word.specs.declared.Class.{Class}
 use Rattle.word.specs.declared.Class.the-variants.{Four, Eight}

@@ -8,7 +8,7 @@ use lib.ListN.{length, take, getD}
 use lib.Seq.{sets}
 use Rattle.answer.specs.declared.Answer.{Answer}
 use Rattle.answer.specs.Outcome.{accepted, answerIn, filled}
-use Rattle.relleb.specs.Table.{Row, row}
+use Rattle.relleb_table.specs.Table.{Row, row}
 use Rattle.listing.specs.declared.kind.Kind.{Kind}
 use Rattle.listing.specs.Text.{decimal, rowsOf, rowText, rowAt, recordLimit, tableLimit}
 

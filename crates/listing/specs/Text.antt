@@ -12,8 +12,8 @@ use Rattle.records.specs.Identifier.{startsWith}
 use Rattle.relr_table.specs.Contract as relr
 use Rattle.apr1.specs.Contract as apr1
 use Rattle.apa1.specs.Table as apa1
-use Rattle.relleb.specs.Table as relleb
-use Rattle.relleb.specs.Table.{Row, row}
+use Rattle.relleb_table.specs.Table as relleb
+use Rattle.relleb_table.specs.Table.{Row, row}
 use Rattle.listing.specs.declared.kind.Kind.{Kind}
 use Rattle.listing.specs.declared.kind.Kind.the-variants.{Relr32, Relr64, Apr1, Apa1, Relleb32, Relleb64}
 use Rattle.listing.specs.declared.kind.Line.{Line}

@@ -3,7 +3,7 @@ ghost use mathlib.Core.Bool.{true};
 ghost use mathlib.Core.List.{_++_};
 ghost use Prim.Native.Nat.{_+_, _*_, _≤_};
 ghost use lib.ListN.{length};
-ghost use Rattle.relleb.specs.Table.{row};
+ghost use Rattle.relleb_table.specs.Table.{row};
 ghost use Rattle.listing.specs.Text.{decimal, decimalSigned, field, header, rowText, rowsTo};
 ghost use Rattle.listing.specs.Inner.{Puts, Room};
 use crate::decimal;

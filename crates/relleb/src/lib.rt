@@ -1,6 +1,6 @@
 // RELLEB, the packed table of whole relocation records: a count, and for each record its differences to the one before it.
 ghost use mathlib.Core.Path.{_≡_};
-ghost use Rattle.relleb.specs.Contract.{even, Reads, Writes};
+ghost use Rattle.relleb_table.specs.Contract.{even, Reads, Writes};
 use answer::Answer;
 use answer::Found;
 use answer::INPUT_LIMIT;
@@ -8,9 +8,6 @@ use answer::LIST_LIMIT;
 use answer::Refusal;
 use word::Class;
 use word::Named;
-
-mod reader;
-mod writer;
 
 // Whether four columns have one length.
 fn same_length(offsets: usize, types: usize, symbols: usize, addends: usize) -> bool
@@ -47,13 +44,13 @@ pub fn read(
         return answer::refuse(Refusal::Limit, 0);
     }
     let width = kind.bits();
-    match reader::scan(table, width) {
+    match relleb_read::scan(table, width) {
         Found::Refused(why, place) => answer::refuse(why, place),
         Found::Count(count) => {
             if (offsets.len() as u64) < count {
                 return answer::short_of(count);
             }
-            reader::fill(table, width, offsets, types, symbols, addends);
+            relleb_read::fill(table, width, offsets, types, symbols, addends);
             answer::accept(count)
         }
     }
@@ -80,14 +77,18 @@ pub fn write(
     if LIST_LIMIT < offsets.len() {
         return answer::refuse(Refusal::Limit, 0);
     }
+    let found = match kind {
+        Class::Four => relleb_write::size(32, offsets, types, symbols, addends),
+        Class::Eight => relleb_write::size(64, offsets, types, symbols, addends),
+    };
     let width = kind.bits();
-    match writer::size(width, offsets, types, symbols, addends) {
+    match found {
         Found::Refused(why, place) => answer::refuse(why, place),
         Found::Count(need) => {
             if (table.len() as u64) < need {
                 return answer::short_of(need);
             }
-            writer::fill(width, offsets, types, symbols, addends, table);
+            relleb_write::fill(width, offsets, types, symbols, addends, table);
             answer::accept(need)
         }
     }

@@ -2,7 +2,7 @@
 ghost use Rattle.relr_table.specs.Contract.{Reads as RelrReads, Writes as RelrWrites, Applies as RelrApplies};
 ghost use Rattle.apr1.specs.Contract.{Reads as Apr1Reads, Writes as Apr1Writes};
 ghost use Rattle.apa1.specs.Contract.{Reads as Apa1Reads, Writes as Apa1Writes};
-ghost use Rattle.relleb.specs.Contract.{Reads as RellebReads, Writes as RellebWrites};
+ghost use Rattle.relleb_table.specs.Contract.{Reads as RellebReads, Writes as RellebWrites};
 use answer::Answer;
 
 #[no_mangle]

@@ -15,7 +15,7 @@ use borrow.Author.Tests.{lt-ltb, le-ltb, le-leb, lt-leb}
 use Rattle.answer.specs.declared.Answer.{Answer}
 use Rattle.answer.specs.declared.Refusal.the-variants.{Class, Limit, Room}
 use Rattle.answer.specs.Outcome.{numberOf, Outcome, accepted, refused, pick, success, refusal, noRoom, answerIn}
-use Rattle.relleb.specs.Table.{Row, row}
+use Rattle.relleb_table.specs.Table.{Row, row}
 use Rattle.listing.specs.declared.kind.Kind.{Kind}
 use Rattle.listing.specs.declared.kind.Line.{Line}
 use Rattle.listing.specs.declared.kind.Line.the-variants.{Names, Unknown}

@@ -1,17 +1,7 @@
 use borrow.Author.Needs.{needs}
-use Rattle.relleb.specs.Contract.Laws.{reading, class-width, fillable}
+use Rattle.relleb_table.specs.Contract.Laws.{reading, class-width, fillable}
 use Rattle.relleb.proofs.read.Statement.{statement}
 use Rattle.relleb.proofs.read.Tie as tie
-use Rattle.relleb.proofs.read.Reads as reads
-use Rattle.relleb.proofs.read.Lts as lts
-use Rattle.answer.proofs.accept.Reads as accept-reads
-use Rattle.answer.proofs.refuse.Reads as refuse-reads
-use Rattle.answer.proofs.short_of.Reads as short-of-reads
-use Rattle.relleb.proofs.reader.fill.Reads as fill-reads
-use Rattle.relleb.proofs.reader.scan.Reads as scan-reads
-use Rattle.relleb.proofs.same_length.Reads as same-length-reads
-use Rattle.word.proofs.Class.bits.Reads as bits-reads
-use Rattle.word.proofs.Class.named.Reads as named-reads
 
 -- src/lib.rt:29:9
 named-requires : tie.Need-named-requires

@@ -1,9 +1,6 @@
-use borrow.Author.Needs.{needs}
-use Rattle.relleb.specs.Contract.Laws.{evens}
+use Rattle.relleb_table.specs.Contract.Laws.{evens}
 use Rattle.relleb.proofs.same_length.Statement.{statement}
 use Rattle.relleb.proofs.same_length.Tie as tie
-use Rattle.relleb.proofs.same_length.Reads as reads
-use Rattle.relleb.proofs.same_length.Lts as lts
 
 -- src/lib.rt:17:9
 returns : tie.Need-returns

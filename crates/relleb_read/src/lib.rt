@@ -1,0 +1,264 @@
+// The reader of RELLEB tables: a first pass over the table, and a second that fills the columns. The width is the class's.
+ghost use mathlib.Core.Path.{_≡_};
+ghost use Prim.Native.Nat.{_^_, _<_};
+ghost use lib.ListN.{length};
+ghost use lib.Signed.{mag};
+ghost use Rattle.answer.specs.Outcome.{foundOf};
+ghost use Rattle.leb128.specs.Number.{IsWidth, readSigned};
+ghost use Rattle.records.specs.Reading.{records};
+ghost use Rattle.relleb_table.specs.Table.{state, start, addendOf, symbolOf, typeOf, stepAt, decode};
+ghost use Rattle.relleb_table.specs.Contract.{Filled};
+ghost use Rattle.relleb_table.specs.Inner.{Fillable};
+ghost use Rattle.relleb_read.specs.Inner.{entryStep, entryWithout, entryWithoutOffset, signedWithout, Skips};
+use answer::Found;
+use answer::Refusal;
+use leb128::Signed;
+use leb128::Unsigned;
+
+// A record with the place past it.
+pub enum Entry {
+    Record(u64, u32, u32, i64, usize),
+    Refused(Refusal, usize),
+}
+
+// The refusal of a number, as its record's.
+fn without(number: Signed) -> Entry
+    ensures { λ r. ⌜ r ≡ entryWithout number ⌝ }
+{
+    match number {
+        Signed::Refused(why, place) => Entry::Refused(why, place),
+        Signed::Value(_, next) => Entry::Refused(Refusal::Width, next),
+    }
+}
+
+fn without_offset(number: Unsigned) -> Entry
+    ensures { λ r. ⌜ r ≡ entryWithoutOffset number ⌝ }
+{
+    match number {
+        Unsigned::Refused(why, place) => Entry::Refused(why, place),
+        Unsigned::Value(_, next) => Entry::Refused(Refusal::Width, next),
+    }
+}
+
+// The record whose addend's difference stands at a place.
+fn with_addend(
+    s: &[u8],
+    at: usize,
+    width: u32,
+    offset: u64,
+    kind: u32,
+    symbol: u32,
+    base: i64,
+) -> Entry
+    requires { ⌜ IsWidth width ⌝ }
+    ensures { λ r. ⌜ entryStep r ≡ addendOf width base offset kind symbol (readSigned width (now (s .entry)) at) ⌝ }
+{
+    let fourth = leb128::read_signed(s, at, width);
+    let Signed::Value(change, past) = fourth else {
+        return without(fourth);
+    };
+    Entry::Record(
+        offset,
+        kind,
+        symbol,
+        wrap::add_signed(width, base, change),
+        past,
+    )
+}
+
+// The symbol of a symbol field.
+fn symbol_in(field: i64) -> u32
+    requires { ⌜ mag field < 2 ^ 32 ⌝ }
+    ensures { λ r. ⌜ r ≡ mag field ⌝ }
+{
+    if field < 0 {
+        return (-1 - field) as u32;
+    }
+    field as u32
+}
+
+// The record whose symbol field stands at a place.
+fn with_symbol(s: &[u8], at: usize, width: u32, offset: u64, kind: u32, base: i64) -> Entry
+    requires { ⌜ IsWidth width ⌝ }
+    ensures { λ r. ⌜ entryStep r ≡ symbolOf width (now (s .entry)) base offset kind (readSigned 33 (now (s .entry)) at) ⌝ }
+{
+    let third = leb128::read_signed(s, at, 33);
+    let Signed::Value(field, next) = third else {
+        return without(third);
+    };
+    let symbol = symbol_in(field);
+    if leb128::is_negative(field) {
+        return with_addend(s, next, width, offset, kind, symbol, base);
+    }
+    Entry::Record(offset, kind, symbol, base, next)
+}
+
+// The record whose type's difference stands at a place.
+fn with_type(
+    s: &[u8],
+    at: usize,
+    width: u32,
+    offset: u64,
+    before: u64,
+    kind: u32,
+    base: i64,
+) -> Entry
+    requires { ⌜ IsWidth width ⌝ }
+    ensures { λ r. ⌜ entryStep r ≡ typeOf width (now (s .entry)) (state before kind base) offset (readSigned 32 (now (s .entry)) at) ⌝ }
+{
+    let second = leb128::read_signed(s, at, 32);
+    let Signed::Value(d, next) = second else {
+        return without(second);
+    };
+    let moved = wrap::moved(32, kind as u64, d);
+    with_symbol(s, next, width, offset, moved as u32, base)
+}
+
+// The record at a place, after one with this offset, this type and this addend.
+fn entry_at(s: &[u8], at: usize, width: u32, offset: u64, kind: u32, addend: i64) -> Entry
+    requires { ⌜ IsWidth width ⌝ }
+    ensures { λ r. ⌜ entryStep r ≡ stepAt width (now (s .entry)) at (state offset kind addend) ⌝ }
+{
+    let first = leb128::read_unsigned(s, at, width);
+    let Unsigned::Value(d, next) = first else {
+        return without_offset(first);
+    };
+    with_type(
+        s,
+        next,
+        width,
+        wrap::add(width, offset, d),
+        offset,
+        kind,
+        addend,
+    )
+}
+
+// The refusal of the offset's number, as a signed one's.
+fn unread(number: Unsigned) -> Signed
+    ensures { λ r. ⌜ r ≡ signedWithout number ⌝ }
+{
+    match number {
+        Unsigned::Refused(why, place) => Signed::Refused(why, place),
+        Unsigned::Value(_, next) => Signed::Refused(Refusal::Width, next),
+    }
+}
+
+// The last number of the record at a place, whose next place is past the record, or the refusal of any.
+fn skip_at(s: &[u8], at: usize, width: u32) -> Signed
+    requires { ⌜ IsWidth width ⌝ }
+    ensures { λ r. ⌜ Skips width (now (s .entry)) at r ⌝ }
+{
+    let first = leb128::read_unsigned(s, at, width);
+    let Unsigned::Value(_, next) = first else {
+        return unread(first);
+    };
+    let second = leb128::read_signed(s, next, 32);
+    let Signed::Value(_, third_at) = second else {
+        return second;
+    };
+    let third = leb128::read_signed(s, third_at, 33);
+    let Signed::Value(field, past) = third else {
+        return third;
+    };
+    if leb128::is_negative(field) {
+        return leb128::read_signed(s, past, width);
+    }
+    Signed::Value(field, past)
+}
+
+// The first pass over so many records from a place on: their count, or the refusal. It needs no sums: none is refused.
+fn walk(s: &[u8], width: u32, count: u64, first: usize) -> Found
+    requires { ⌜ IsWidth width ⌝ }
+    ensures { λ r. ⌜ r ≡ foundOf (records (stepAt width (now (s .entry))) (length (now (s .entry))) count first start) ⌝ }
+{
+    let mut left = count;
+    let mut at = first;
+    while 0 < left {
+        match skip_at(s, at, width) {
+            Signed::Refused(why, place) => {
+                return Found::Refused(why, place as u64);
+            }
+            Signed::Value(_, past) => {
+                at = past;
+                left -= 1;
+            }
+        }
+    }
+    if at < s.len() {
+        return Found::Refused(Refusal::Trailing, at as u64);
+    }
+    Found::Count(count)
+}
+
+// The count of the records of a table, or the refusal.
+pub fn scan(s: &[u8], width: u32) -> Found
+    requires { ⌜ IsWidth width ⌝ }
+    ensures { λ r. ⌜ r ≡ foundOf (decode width (now (s .entry))) ⌝ }
+{
+    let head = leb128::read_unsigned(s, 0, 64);
+    let Unsigned::Value(count, first) = head else {
+        return records::not_counted(head);
+    };
+    walk(s, width, count, first)
+}
+
+// The second pass over records that the first accepted.
+fn store(
+    s: &[u8],
+    width: u32,
+    count: u64,
+    first: usize,
+    offsets: &mut [u64],
+    types: &mut [u32],
+    symbols: &mut [u32],
+    addends: &mut [i64],
+)
+    requires { ⌜ (IsWidth width) × (Fillable (records (stepAt width (now s)) (length (now s)) count first start) (now offsets) (now types) (now symbols) (now addends)) ⌝ }
+    ensures { λ _. ⌜ Filled (records (stepAt width (now (s .entry))) (length (now (s .entry))) count first start) (now (offsets .entry)) (now (types .entry)) (now (symbols .entry)) (now (addends .entry)) (now (offsets .exit)) (now (types .exit)) (now (symbols .exit)) (now (addends .exit)) ⌝ }
+{
+    let mut rest = count;
+    let mut from = first;
+    let mut offset: u64 = 0;
+    let mut kind: u32 = 0;
+    let mut addend: i64 = 0;
+    let mut i: usize = 0;
+    while 0 < rest {
+        match entry_at(s, from, width, offset, kind, addend) {
+            Entry::Refused(_, _) => {
+                return;
+            }
+            Entry::Record(o, t, y, a, past) => {
+                offset = o;
+                kind = t;
+                addend = a;
+                offsets[i] = offset;
+                types[i] = kind;
+                symbols[i] = y;
+                addends[i] = addend;
+                from = past;
+                rest -= 1;
+                i += 1;
+            }
+        }
+    }
+}
+
+// The records of a table that `scan` accepted, in columns with room for them.
+pub fn fill(
+    s: &[u8],
+    width: u32,
+    offsets: &mut [u64],
+    types: &mut [u32],
+    symbols: &mut [u32],
+    addends: &mut [i64],
+)
+    requires { ⌜ (IsWidth width) × (Fillable (decode width (now s)) (now offsets) (now types) (now symbols) (now addends)) ⌝ }
+    ensures { λ _. ⌜ Filled (decode width (now (s .entry))) (now (offsets .entry)) (now (types .entry)) (now (symbols .entry)) (now (addends .entry)) (now (offsets .exit)) (now (types .exit)) (now (symbols .exit)) (now (addends .exit)) ⌝ }
+{
+    let head = leb128::read_unsigned(s, 0, 64);
+    let Unsigned::Value(count, first) = head else {
+        return;
+    };
+    store(s, width, count, first, offsets, types, symbols, addends);
+}
