@@ -1,13 +1,10 @@
 // APA1, the 64-bit packed table of offsets with addends: an identifier, a count, and for each record the differences to the one before it.
-ghost use Rattle.apa1.specs.Contract.{Reads, Writes};
+ghost use Rattle.apa1_table.specs.Contract.{Reads, Writes};
 use answer::Answer;
 use answer::Found;
 use answer::INPUT_LIMIT;
 use answer::LIST_LIMIT;
 use answer::Refusal;
-
-mod reader;
-mod writer;
 
 // The records of a table, into a column of offsets and one of addends.
 pub fn read(table: &[u8], offsets: &mut [u64], addends: &mut [i64]) -> Answer
@@ -19,13 +16,13 @@ pub fn read(table: &[u8], offsets: &mut [u64], addends: &mut [i64]) -> Answer
     if INPUT_LIMIT < table.len() {
         return answer::refuse(Refusal::Limit, 0);
     }
-    match reader::scan(table) {
+    match apa1_read::scan(table) {
         Found::Refused(why, place) => answer::refuse(why, place),
         Found::Count(count) => {
             if (offsets.len() as u64) < count {
                 return answer::short_of(count);
             }
-            reader::fill(table, offsets, addends);
+            apa1_read::fill(table, offsets, addends);
             answer::accept(count)
         }
     }
@@ -41,10 +38,10 @@ pub fn write(offsets: &[u64], addends: &[i64], table: &mut [u8]) -> Answer
     if LIST_LIMIT < offsets.len() {
         return answer::refuse(Refusal::Limit, 0);
     }
-    let need = writer::size(offsets, addends);
+    let need = apa1_write::size(offsets, addends);
     if (table.len() as u64) < need {
         return answer::short_of(need);
     }
-    writer::fill(offsets, addends, table);
+    apa1_write::fill(offsets, addends, table);
     answer::accept(need)
 }

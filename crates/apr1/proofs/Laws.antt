@@ -3,34 +3,34 @@
 use Prim.Native.Nat.{ℕ, zero, suc, _+_, _-_, _*_, _^_, _≤_, _<_}
 use mathlib.Core.Bool.{Bool, true, false}
 use mathlib.Core.Path.{_≡_, refl, sym, ap, subst, _∙_}
-use mathlib.Core.List.{List, [], _∷_, _++_, append-assoc, append-nil}
-use native.Mathlib.Nat.{mul-le-mul-left, add-zero, mul-comm}
+use mathlib.Core.List.{List, [], _∷_, _++_, append-assoc}
+use native.Mathlib.Nat.{mul-le-mul-left, mul-comm}
 use native.Mathlib.Numerals.{add-one}
 use native.Mathlib.Omega.{arith}
-use native.Mathlib.Decide.{decLe, decLt, ℕ-discrete}
-use lib.Dec.{eqb, leb, ltb}
-use lib.ListN.{length, getD, drop, length-append}
-use borrow.Author.Tests.{eq-eqb, ne-eqb, eqb-true, le-leb, lt-leb}
+use native.Mathlib.Decide.{decLe}
+use lib.Dec.{eqb, leb}
+use lib.ListN.{length, drop, length-append}
+use borrow.Author.Tests.{ne-eqb, eqb-true, le-leb, lt-leb}
 use Rattle.answer.specs.declared.Refusal.the-variants as why
-use Rattle.answer.specs.Outcome.{Outcome, accepted, refused, pick, after, inputLimit, listLimit}
+use Rattle.answer.specs.Outcome.{Outcome, accepted, pick, inputLimit, listLimit}
 use Rattle.answer.specs.Outcome.Laws.{accepted-refused}
 use Rattle.leb128.specs.Number.{readUnsigned, shortUnsigned}
 use Rattle.leb128.specs.declared.Unsigned.the-variants.{Value}
 use Rattle.records.specs.Columns.{Each}
 use Rattle.records.specs.Identifier.{startsWith}
 use Rattle.records.specs.Identifier.Laws.{starts-same}
-use Rattle.records.specs.Reading.{one, none, records}
+use Rattle.records.specs.Reading.{one, records}
 use Rattle.records.specs.Writing.{Put, bytes, none as unput, puts}
 use Rattle.records.specs.Writing.Laws.{puts-more, puts-end}
 use Rattle.records.proofs.Writing.{after-accepted}
 use Rattle.records.proofs.RoundTrip.{unsigned-here, back}
-use Rattle.apr1.specs.Table.{identifier, last, Pair, pair, run, reach, expand, stepAt, joined, decode, withFirst, withCount, pairThen, pairsFrom, onePair, pairBytes, headOf, checked, encode}
-use Rattle.apr1.specs.Table.Laws.{run-more, expand-none, expand-more, step-is, joined-is}
-use Rattle.apr1.specs.Contract.{decoding, encoding}
-use Rattle.apr1.specs.Inner.{Rising, headIn, pairsIn, tableIn}
-use Rattle.apr1.proofs.Pairs.{one-bytes, one-most, pair-bytes-none, pair-bytes-more, head-bytes, head-most, table-bytes, checked-none, checked-space, checked-order, checked-more, rising-checked, encode-none, from-head, encode-is}
+use Rattle.apr1_table.specs.Table.{identifier, last, Pair, pair, run, reach, expand, stepAt, decode, withFirst, withCount, pairThen, pairsFrom, onePair, pairBytes, headOf, checked, encode}
+use Rattle.apr1_table.specs.Table.Laws.{run-more, expand-none, expand-more, step-is, joined-is}
+use Rattle.apr1_table.specs.Contract.{decoding, encoding}
+use Rattle.apr1_table.specs.Inner.{Rising, headIn, pairsIn, tableIn}
+use Rattle.apr1_table.proofs.Pairs.{one-bytes, one-most, pair-bytes-none, pair-bytes-more, head-bytes, head-most, table-bytes, checked-space, checked-order, checked-more, rising-checked, encode-none, from-head, encode-is}
 use Rattle.apr1.proofs.ReadNeeds.{decoding-is}
-use Rattle.apr1.proofs.WriteNeeds.{encoding-long, encoding-is}
+use Rattle.apr1_write.proofs.WriteNeeds.{encoding-long, encoding-is}
 
 -- ---- the lists that have a table: not empty, rising, inside the space
 checked-rising : (i lo : ℕ) (l : List ℕ) (o : Outcome (List ℕ)) (b : List ℕ) → checked i lo l o ≡ accepted b → Rising lo l

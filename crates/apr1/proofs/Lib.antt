@@ -1,6 +1,2 @@
-pub mod EntryNeeds
-pub mod PassNeeds
 pub mod ReadNeeds
-pub mod Pairs
-pub mod WriteNeeds
 pub mod Laws

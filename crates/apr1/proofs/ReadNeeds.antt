@@ -12,11 +12,11 @@ use Rattle.answer.specs.declared.Refusal.{Refusal}
 use Rattle.answer.specs.declared.Refusal.the-variants.{Limit}
 use Rattle.answer.specs.declared.Found.{Found}
 use Rattle.answer.specs.declared.Found.the-variants.{Count, Refused}
-use Rattle.answer.specs.Outcome.{Outcome, accepted, refused, foundOf, success, refusal, noRoom, inputLimit}
+use Rattle.answer.specs.Outcome.{refused, foundOf, success, refusal, noRoom, inputLimit}
 use Rattle.answer.specs.Outcome.Laws.{Counted, counted, not-found, filled-long, filled-refused, answer-fits, answer-long, answer-refused}
-use Rattle.apr1.specs.Table.{decode}
-use Rattle.apr1.specs.Contract.{itself, decoding, Reads}
-use Rattle.apr1.specs.Inner.{Fillable, Filled}
+use Rattle.apr1_table.specs.Table.{decode}
+use Rattle.apr1_table.specs.Contract.{itself, decoding, Reads}
+use Rattle.apr1_read.specs.Inner.{Fillable, Filled}
 
 module _ (s old : List ℕ) where
   decoding-long : inputLimit < length s → decoding s ≡ refused Limit 0

@@ -1,14 +1,11 @@
 // APR1, the 32-bit packed table of offsets: an identifier, a first offset, and pairs of a count and a gap.
-ghost use Rattle.apr1.specs.Contract.{Reads, Writes};
+ghost use Rattle.apr1_table.specs.Contract.{Reads, Writes};
 use answer::Answer;
 use answer::Found;
 use answer::INPUT_LIMIT;
 use answer::LIST_LIMIT;
 use answer::Refusal;
-use writer::Sized;
-
-mod reader;
-mod writer;
+use apr1_write::Sized;
 
 // The offsets of a table, into a column.
 pub fn read(table: &[u8], offsets: &mut [u64]) -> Answer
@@ -17,13 +14,13 @@ pub fn read(table: &[u8], offsets: &mut [u64]) -> Answer
     if INPUT_LIMIT < table.len() {
         return answer::refuse(Refusal::Limit, 0);
     }
-    match reader::scan(table) {
+    match apr1_read::scan(table) {
         Found::Refused(why, place) => answer::refuse(why, place),
         Found::Count(count) => {
             if (offsets.len() as u64) < count {
                 return answer::short_of(count);
             }
-            reader::fill(table, offsets);
+            apr1_read::fill(table, offsets);
             answer::accept(count)
         }
     }
@@ -39,13 +36,13 @@ pub fn write(offsets: &[u64], table: &mut [u8]) -> Answer
     if offsets.len() < 1 {
         return answer::refuse(Refusal::Empty, 0);
     }
-    match writer::size(offsets) {
+    match apr1_write::size(offsets) {
         Sized::Refused(why, place) => answer::refuse(why, place),
         Sized::Table(pairs, need) => {
             if (table.len() as u64) < need {
                 return answer::short_of(need);
             }
-            writer::fill(offsets, table, pairs);
+            apr1_write::fill(offsets, table, pairs);
             answer::accept(need)
         }
     }

@@ -21,8 +21,8 @@ use Rattle.records.specs.Identifier.{startsWith}
 use Rattle.records.specs.Reading.{stepThen, records, counted}
 use Rattle.records.specs.Writing.{putThen, puts}
 use Rattle.wrap.specs.Wrap.{residue, signedIn, same}
-use Rattle.apr1.specs.Table as apr1
-use Rattle.apa1.specs.Table as apa1
+use Rattle.apr1_table.specs.Table as apr1
+use Rattle.apa1_table.specs.Table as apa1
 use Rattle.relleb_table.specs.Table as relleb
 
 -- a row: what is written and what it stands for, to be read and to be written; or an image before and after a table is applied

@@ -10,9 +10,9 @@ use Rattle.word.specs.Word as word
 use Rattle.relr_table.specs.Words as words
 use Rattle.relr_table.specs.Table as relr
 use Rattle.relr_table.specs.Contract as relr-contract
-use Rattle.apr1.specs.Table as apr1
-use Rattle.apr1.specs.Contract as apr1-contract
-use Rattle.apa1.specs.Table as apa1
+use Rattle.apr1_table.specs.Table as apr1
+use Rattle.apr1_table.specs.Contract as apr1-contract
+use Rattle.apa1_table.specs.Table as apa1
 use Rattle.relleb_table.specs.Table as relleb
 use Rattle.answer.specs.Outcome as outcome
 use Rattle.listing.specs.Text.{textOf, textAfter, firstLine, tableText, rowsOf, mapped, printed, rowsFrom, rowText, field, decimal, digitsBy, decimalSigned, refusalText}

@@ -17,10 +17,10 @@ use Rattle.answer.specs.Outcome.Laws.{filled-fits, answer-zero, Succeeded}
 use Rattle.records.specs.Identifier.{startsWith}
 use Rattle.records.specs.Identifier.Laws.{starts-short}
 use Rattle.relr_table.specs.Contract as relr
-use Rattle.apr1.specs.Contract as apr1
-use Rattle.apa1.specs.Table as apa1
-use Rattle.apa1.specs.Contract as apa1-contract
-use Rattle.apa1.specs.Contract.Laws as apa1-laws
+use Rattle.apr1_table.specs.Contract as apr1
+use Rattle.apa1_table.specs.Table as apa1
+use Rattle.apa1_table.specs.Contract as apa1-contract
+use Rattle.apa1_table.specs.Contract.Laws as apa1-laws
 use Rattle.relleb_table.specs.Table as relleb
 use Rattle.relleb_table.specs.Table.{Row, row}
 use Rattle.relleb_table.specs.Contract as relleb-contract

@@ -10,8 +10,8 @@ use Rattle.answer.specs.declared.Refusal.the-variants.{Class, Limit, Room}
 use Rattle.answer.specs.Outcome.{numberOf, Outcome, accepted, refused, pick}
 use Rattle.records.specs.Identifier.{startsWith}
 use Rattle.relr_table.specs.Contract as relr
-use Rattle.apr1.specs.Contract as apr1
-use Rattle.apa1.specs.Table as apa1
+use Rattle.apr1_table.specs.Contract as apr1
+use Rattle.apa1_table.specs.Table as apa1
 use Rattle.relleb_table.specs.Table as relleb
 use Rattle.relleb_table.specs.Table.{Row, row}
 use Rattle.listing.specs.declared.kind.Kind.{Kind}

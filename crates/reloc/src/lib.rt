@@ -1,7 +1,7 @@
 // The static library: every call for programs in C and Rust, with the contract of the call behind it.
 ghost use Rattle.relr_table.specs.Contract.{Reads as RelrReads, Writes as RelrWrites, Applies as RelrApplies};
-ghost use Rattle.apr1.specs.Contract.{Reads as Apr1Reads, Writes as Apr1Writes};
-ghost use Rattle.apa1.specs.Contract.{Reads as Apa1Reads, Writes as Apa1Writes};
+ghost use Rattle.apr1_table.specs.Contract.{Reads as Apr1Reads, Writes as Apr1Writes};
+ghost use Rattle.apa1_table.specs.Contract.{Reads as Apa1Reads, Writes as Apa1Writes};
 ghost use Rattle.relleb_table.specs.Contract.{Reads as RellebReads, Writes as RellebWrites};
 use answer::Answer;
 

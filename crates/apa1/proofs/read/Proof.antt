@@ -1,5 +1,5 @@
 use borrow.Author.Needs.{needs}
-use Rattle.apa1.specs.Contract.Laws.{reading}
+use Rattle.apa1_table.specs.Contract.Laws.{reading}
 use Rattle.apa1.proofs.read.Statement.{statement}
 use Rattle.apa1.proofs.read.Tie as tie
 use Rattle.apa1.proofs.read.Reads as reads
@@ -7,8 +7,8 @@ use Rattle.apa1.proofs.read.Lts as lts
 use Rattle.answer.proofs.accept.Reads as accept-reads
 use Rattle.answer.proofs.refuse.Reads as refuse-reads
 use Rattle.answer.proofs.short_of.Reads as short-of-reads
-use Rattle.apa1.proofs.reader.fill.Reads as fill-reads
-use Rattle.apa1.proofs.reader.scan.Reads as scan-reads
+use Rattle.apa1_read.proofs.fill.Reads as fill-reads
+use Rattle.apa1_read.proofs.scan.Reads as scan-reads
 
 -- src/lib.rt:14:9
 refuse-requires : tie.Need-refuse-requires

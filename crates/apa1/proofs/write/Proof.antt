@@ -1,5 +1,5 @@
 use borrow.Author.Needs.{needs}
-use Rattle.apa1.specs.Contract.Laws.{writing, puttable}
+use Rattle.apa1_table.specs.Contract.Laws.{writing, puttable}
 use Rattle.apa1.proofs.write.Statement.{statement}
 use Rattle.apa1.proofs.write.Tie as tie
 use Rattle.apa1.proofs.write.Reads as reads
@@ -7,8 +7,8 @@ use Rattle.apa1.proofs.write.Lts as lts
 use Rattle.answer.proofs.accept.Reads as accept-reads
 use Rattle.answer.proofs.refuse.Reads as refuse-reads
 use Rattle.answer.proofs.short_of.Reads as short-of-reads
-use Rattle.apa1.proofs.writer.fill.Reads as fill-reads
-use Rattle.apa1.proofs.writer.size.Reads as size-reads
+use Rattle.apa1_write.proofs.fill.Reads as fill-reads
+use Rattle.apa1_write.proofs.size.Reads as size-reads
 
 -- src/lib.rt:39:9
 refuse-requires : tie.Need-refuse-requires

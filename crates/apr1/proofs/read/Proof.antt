@@ -7,8 +7,8 @@ use Rattle.apr1.proofs.read.Lts as lts
 use Rattle.answer.proofs.accept.Reads as accept-reads
 use Rattle.answer.proofs.refuse.Reads as refuse-reads
 use Rattle.answer.proofs.short_of.Reads as short-of-reads
-use Rattle.apr1.proofs.reader.fill.Reads as fill-reads
-use Rattle.apr1.proofs.reader.scan.Reads as scan-reads
+use Rattle.apr1_read.proofs.fill.Reads as fill-reads
+use Rattle.apr1_read.proofs.scan.Reads as scan-reads
 
 -- src/lib.rt:15:9
 refuse-requires : tie.Need-refuse-requires

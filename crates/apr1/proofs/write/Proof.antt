@@ -1,4 +1,4 @@
-use Rattle.apr1.proofs.WriteNeeds.{writes}
+use Rattle.apr1_write.proofs.WriteNeeds.{writes}
 use borrow.Author.Needs.{needs}
 use Rattle.apr1.proofs.write.Statement.{statement}
 use Rattle.apr1.proofs.write.Tie as tie
@@ -7,8 +7,8 @@ use Rattle.apr1.proofs.write.Lts as lts
 use Rattle.answer.proofs.accept.Reads as accept-reads
 use Rattle.answer.proofs.refuse.Reads as refuse-reads
 use Rattle.answer.proofs.short_of.Reads as short-of-reads
-use Rattle.apr1.proofs.writer.fill.Reads as fill-reads
-use Rattle.apr1.proofs.writer.size.Reads as size-reads
+use Rattle.apr1_write.proofs.fill.Reads as fill-reads
+use Rattle.apr1_write.proofs.size.Reads as size-reads
 
 -- src/lib.rt:38:9
 refuse-requires : tie.Need-refuse-requires

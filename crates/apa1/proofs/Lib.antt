@@ -1,5 +1,0 @@
-pub mod Entry
-pub mod Pass
-pub mod Bytes
-pub mod Put
-pub mod Laws

@@ -1,0 +1,101 @@
+-- The needs of the readers of a record and of the head, as the code asks them: what a callee returned is r, with what its contract says of r
+-- and what the match found r to be.
+-- Assumes nothing.
+use Prim.Native.Nat.{ℕ}
+use mathlib.Core.Path.{_≡_, refl, ap, ap₂, sym, _∙_, subst}
+use mathlib.Core.Bool.{Bool, true, false, not}
+use mathlib.Core.List.{List}
+use lib.IntN.{ℤ, pos, _+ℤ_}
+use lib.Signed.{mag}
+use mir.Syntax.{w64}
+use mir.Val.{toZ, ofZ}
+use borrow.Author.Needs.{needs}
+use borrow.Author.Tests.{not-true, not-false}
+use Rattle.answer.specs.declared.Refusal.{Refusal}
+use Rattle.answer.specs.declared.Refusal.the-variants.{Identifier, Width}
+use Rattle.leb128.specs.Number.{readSigned, isNeg}
+use Rattle.leb128.specs.declared.Signed.{Signed}
+use Rattle.leb128.specs.declared.Signed.the-variants.{Value as SValue, Refused as SRefused}
+use Rattle.leb128.specs.declared.Unsigned.{Unsigned}
+use Rattle.leb128.specs.declared.Unsigned.the-variants.{Value as UValue, Refused as URefused}
+use Rattle.records.specs.Identifier.{startsWith}
+use Rattle.records.specs.Reading.{one}
+use Rattle.wrap.specs.Wrap.{residue, wrapped}
+use Rattle.apa1_read.specs.declared.Entry.{Entry}
+use Rattle.apa1_read.specs.declared.Entry.the-variants.{Refused}
+use Rattle.apa1_table.specs.Table.{row, identifier, stepAt, headAt}
+use Rattle.apa1_table.specs.Table.Laws.{step-not, step-not-2, step-is, head-other, head-not, head-is, count-negative, count-other}
+use Rattle.apa1_read.specs.Inner.{entryStep, entryWithout, headWithout, Skips}
+
+-- ---- a number that is refused
+module _ {r : Signed} where
+  module _ {why : Refusal} {p : ℕ} (e : r ≡ SRefused why p) where
+    pub entry-refused : Refused why p ≡ entryWithout r
+    entry-refused = ap entryWithout (sym e)
+
+    pub head-refused : URefused why p ≡ headWithout r
+    head-refused = ap headWithout (sym e)
+
+  module _ {z : ℤ} {next : ℕ} (e : r ≡ SValue z next) where
+    pub entry-asked : Refused Width next ≡ entryWithout r
+    entry-asked = ap entryWithout (sym e)
+
+    pub head-asked : URefused Width next ≡ headWithout r
+    head-asked = ap headWithout (sym e)
+
+pub ruleset withouts = (entry-refused, head-refused, entry-asked, head-asked, needs)
+
+-- ---- a record
+abbrev Bits : ℤ → ℤ
+Bits z = toZ w64 (ofZ w64 z)
+
+module _ (s : List ℕ) (at o : ℕ) (a : ℤ) {r : Signed} (e : r ≡ readSigned 64 s at) where
+  pub entry-not : {x : Entry} {why : Refusal} {p : ℕ} → r ≡ SRefused why p → x ≡ entryWithout r → entryStep x ≡ stepAt s at (row o a)
+  entry-not f g = ap entryStep (g ∙ ap entryWithout f) ∙ sym (step-not s at (row o a) (sym e ∙ f))
+
+  module _ {d : ℤ} {next : ℕ} (f : r ≡ SValue d next) {t : Signed} (g : t ≡ readSigned 64 s next) where
+    pub entry-not-2 : {x : Entry} {why : Refusal} {p : ℕ} → t ≡ SRefused why p → x ≡ entryWithout t → entryStep x ≡ stepAt s at (row o a)
+    entry-not-2 h k = ap entryStep (k ∙ ap entryWithout h) ∙ sym (step-not-2 s at (row o a) (sym e ∙ f) (sym g ∙ h))
+
+    -- m and z are the sums
+    pub entry-is : {b : ℤ} {past m : ℕ} {z : ℤ} → t ≡ SValue b past → m ≡ residue 64 (pos o +ℤ Bits d) → z ≡ wrapped 64 (Bits a +ℤ Bits b)
+        → Bits d ≡ d → Bits a ≡ a → Bits b ≡ b → Bits z ≡ z → one (row m (Bits z)) past (row m (Bits z)) ≡ stepAt s at (row o a)
+    entry-is {b} {past} {m} {z} h k l i j n q =
+        let u : row m (Bits z) ≡ row (residue 64 (pos o +ℤ d)) (wrapped 64 (a +ℤ b)) =
+        ap₂ row (k ∙ ap (λ (y : ℤ). residue 64 (pos o +ℤ y)) i) (q ∙ l ∙ ap₂ (λ (y w : ℤ). wrapped 64 (y +ℤ w)) j n) in
+        sym (step-is s at (row o a) (sym e ∙ f) (sym g ∙ h) u)
+
+pub ruleset entries = (entry-not, entry-not-2, entry-is, needs)
+
+-- ---- a record that is passed over
+module _ (s : List ℕ) (at : ℕ) {r : Signed} (e : r ≡ readSigned 64 s at) where
+  pub skip-not : {why : Refusal} {p : ℕ} → r ≡ SRefused why p → Skips s at r
+  skip-not f = subst (Skips s at) (sym f) (λ prev. step-not s at prev (sym e ∙ f))
+
+  module _ {d : ℤ} {next : ℕ} (f : r ≡ SValue d next) where
+    pub skip-is : (t : Signed) → t ≡ readSigned 64 s next → Skips s at t
+    skip-is (SValue a past) g = λ prev. (_, step-is s at prev (sym e ∙ f) (sym g) refl)
+    skip-is (SRefused why p) g = λ prev. step-not-2 s at prev (sym e ∙ f) (sym g)
+
+pub ruleset skips = (skip-not, skip-is, needs)
+
+-- ---- the head
+module _ (s : List ℕ) {t : Bool} (e : t ≡ startsWith identifier s) where
+  pub head-none : not t ≡ true → URefused Identifier 0 ≡ headAt s
+  head-none f = sym (head-other s (sym e ∙ not-true t f))
+
+  module _ (n : not t ≡ false) {r : Signed} (g : r ≡ readSigned 64 s 4) where
+    pub head-bad : {x : Unsigned} {why : Refusal} {p : ℕ} → r ≡ SRefused why p → x ≡ headWithout r → x ≡ headAt s
+    head-bad h k = k ∙ ap headWithout h ∙ sym (head-not s (sym e ∙ not-false t n) (sym g ∙ h))
+
+    module _ {z : ℤ} {first : ℕ} (h : r ≡ SValue z first) {b : Bool} (k : b ≡ isNeg (Bits z)) (i : Bits z ≡ z) where
+      sign : b ≡ isNeg z
+      sign = k ∙ ap isNeg i
+
+      pub head-negative : b ≡ true → URefused Width 4 ≡ headAt s
+      head-negative l = sym (head-is s (sym e ∙ not-false t n) (sym g ∙ h) ∙ count-negative z first (sym sign ∙ l))
+
+      pub head-count : {m : ℕ} → b ≡ false → m ≡ mag (Bits z) → UValue m first ≡ headAt s
+      head-count l q = ap (λ (y : ℕ). UValue y first) (q ∙ ap mag i) ∙ sym (head-is s (sym e ∙ not-false t n) (sym g ∙ h) ∙ count-other z first (sym sign ∙ l))
+
+pub ruleset heads = (head-none, head-bad, head-negative, head-count, needs)

@@ -1,0 +1,168 @@
+// The reader of APA1 tables: a first pass over the table, and a second that fills the columns.
+ghost use mathlib.Core.Path.{_≡_};
+ghost use lib.ListN.{length};
+ghost use Rattle.answer.specs.Outcome.{foundOf};
+ghost use Rattle.records.specs.Identifier.{startsWith};
+ghost use Rattle.records.specs.Reading.{records};
+ghost use Rattle.apa1_table.specs.Table.{row, identifier, start, stepAt, headAt, decode};
+ghost use Rattle.apa1_table.specs.Contract.{Filled};
+ghost use Rattle.apa1_table.specs.Inner.{Fillable};
+ghost use Rattle.apa1_read.specs.Inner.{entryStep, entryWithout, headWithout, Skips};
+use answer::Found;
+use answer::Refusal;
+use leb128::Signed;
+use leb128::Unsigned;
+
+// A record with the place past it.
+pub enum Entry {
+    Record(u64, i64, usize),
+    Refused(Refusal, usize),
+}
+
+// The refusal of a number, as its record's.
+fn without(number: Signed) -> Entry
+    ensures { λ r. ⌜ r ≡ entryWithout number ⌝ }
+{
+    match number {
+        Signed::Refused(why, place) => Entry::Refused(why, place),
+        Signed::Value(_, next) => Entry::Refused(Refusal::Width, next),
+    }
+}
+
+// The record at a place, after one with this offset and this addend.
+fn entry_at(s: &[u8], at: usize, offset: u64, addend: i64) -> Entry
+    ensures { λ r. ⌜ entryStep r ≡ stepAt (now (s .entry)) at (row offset addend) ⌝ }
+{
+    let first = leb128::read_signed(s, at, 64);
+    let Signed::Value(d, next) = first else {
+        return without(first);
+    };
+    let second = leb128::read_signed(s, next, 64);
+    let Signed::Value(e, past) = second else {
+        return without(second);
+    };
+    Entry::Record(
+        wrap::moved(64, offset, d),
+        wrap::add_signed(64, addend, e),
+        past,
+    )
+}
+
+// The second number of the record at a place, whose next place is past the record, or the refusal of either.
+fn skip_at(s: &[u8], at: usize) -> Signed
+    ensures { λ r. ⌜ Skips (now (s .entry)) at r ⌝ }
+{
+    let first = leb128::read_signed(s, at, 64);
+    let Signed::Value(_, next) = first else {
+        return first;
+    };
+    leb128::read_signed(s, next, 64)
+}
+
+// The refusal of the count's number, as the count's.
+fn without_count(number: Signed) -> Unsigned
+    ensures { λ r. ⌜ r ≡ headWithout number ⌝ }
+{
+    match number {
+        Signed::Refused(why, place) => Unsigned::Refused(why, place),
+        Signed::Value(_, next) => Unsigned::Refused(Refusal::Width, next),
+    }
+}
+
+// Whether a table has APA1's identifier.
+fn identified(s: &[u8]) -> bool
+    ensures { λ r. ⌜ r ≡ startsWith identifier (now (s .entry)) ⌝ }
+{
+    records::starts_with(s, b"APA1")
+}
+
+// The count of the records, with the place of the first.
+fn head_of(s: &[u8]) -> Unsigned
+    ensures { λ r. ⌜ r ≡ headAt (now (s .entry)) ⌝ }
+{
+    if !identified(s) {
+        return Unsigned::Refused(Refusal::Identifier, 0);
+    }
+    let count = leb128::read_signed(s, 4, 64);
+    let Signed::Value(n, first) = count else {
+        return without_count(count);
+    };
+    if leb128::is_negative(n) {
+        return Unsigned::Refused(Refusal::Width, 4);
+    }
+    Unsigned::Value(leb128::magnitude(n), first)
+}
+
+// The first pass over so many records from a place on: their count, or the refusal. It needs no sums: none is refused.
+fn walk(s: &[u8], count: u64, first: usize) -> Found
+    ensures { λ r. ⌜ r ≡ foundOf (records (stepAt (now (s .entry))) (length (now (s .entry))) count first start) ⌝ }
+{
+    let mut left = count;
+    let mut at = first;
+    while 0 < left {
+        match skip_at(s, at) {
+            Signed::Refused(why, place) => {
+                return Found::Refused(why, place as u64);
+            }
+            Signed::Value(_, past) => {
+                at = past;
+                left -= 1;
+            }
+        }
+    }
+    if at < s.len() {
+        return Found::Refused(Refusal::Trailing, at as u64);
+    }
+    Found::Count(count)
+}
+
+// The count of the records of a table, or the refusal.
+pub fn scan(s: &[u8]) -> Found
+    ensures { λ r. ⌜ r ≡ foundOf (decode (now (s .entry))) ⌝ }
+{
+    let head = head_of(s);
+    let Unsigned::Value(count, first) = head else {
+        return records::not_counted(head);
+    };
+    walk(s, count, first)
+}
+
+// The second pass over records that the first accepted.
+fn store(s: &[u8], count: u64, first: usize, offsets: &mut [u64], addends: &mut [i64])
+    requires { ⌜ Fillable (records (stepAt (now s)) (length (now s)) count first start) (now offsets) (now addends) ⌝ }
+    ensures { λ _. ⌜ Filled (records (stepAt (now (s .entry))) (length (now (s .entry))) count first start) (now (offsets .entry)) (now (addends .entry)) (now (offsets .exit)) (now (addends .exit)) ⌝ }
+{
+    let mut rest = count;
+    let mut from = first;
+    let mut offset: u64 = 0;
+    let mut addend: i64 = 0;
+    let mut i: usize = 0;
+    while 0 < rest {
+        match entry_at(s, from, offset, addend) {
+            Entry::Refused(_, _) => {
+                return;
+            }
+            Entry::Record(o, a, past) => {
+                offset = o;
+                addend = a;
+                offsets[i] = offset;
+                addends[i] = addend;
+                from = past;
+                rest -= 1;
+                i += 1;
+            }
+        }
+    }
+}
+
+// The records of a table that `scan` accepted, in columns with room for them.
+pub fn fill(s: &[u8], offsets: &mut [u64], addends: &mut [i64])
+    requires { ⌜ Fillable (decode (now s)) (now offsets) (now addends) ⌝ }
+    ensures { λ _. ⌜ Filled (decode (now (s .entry))) (now (offsets .entry)) (now (addends .entry)) (now (offsets .exit)) (now (addends .exit)) ⌝ }
+{
+    let head = head_of(s);
+    let Unsigned::Value(count, first) = head else {
+        return;
+    };
+    store(s, count, first, offsets, addends);
+}

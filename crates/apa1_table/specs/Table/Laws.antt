@@ -1,0 +1,102 @@
+-- The cases of the format's definitions, as equations.
+-- Assumes nothing.
+use Prim.Native.Nat.{ℕ, _+_, _^_, _≤_, _<_}
+use mathlib.Core.Path.{_≡_, refl, sym, _∙_}
+use mathlib.Core.Bool.{true, false}
+use mathlib.Core.List.{List, _∷_, _++_, map}
+use lib.IntN.{ℤ, pos, negsuc, _+ℤ_, _-ℤ_}
+use native.Mathlib.Omega.{arith}
+use lib.Signed.{mag}
+use lib.ListN.{length, drop, getD, length-map, length-append}
+use Rattle.answer.specs.declared.Refusal.{Refusal}
+use Rattle.answer.specs.declared.Refusal.the-variants.{Identifier, Width}
+use Rattle.answer.specs.Outcome.{after}
+use Rattle.leb128.specs.Number.{readSigned, shortSigned, isNeg}
+use Rattle.leb128.specs.declared.Signed.the-variants.{Value, Refused}
+use Rattle.leb128.specs.declared.Unsigned.the-variants.{Value as UValue, Refused as URefused}
+use Rattle.records.specs.Columns.Laws.{from, map-from, zipped-from, zipped-length}
+use Rattle.records.specs.Identifier.{startsWith}
+use Rattle.records.specs.Reading.{one, none, counted}
+use Rattle.records.specs.Writing.{bytes, puts}
+use Rattle.leb128.proofs.RoundTrip.{signed-bytes}
+use Rattle.wrap.specs.Wrap.{residue, wrapped}
+use Rattle.wrap.specs.Wrap.Laws.{wrapped-range}
+use Rattle.apa1_table.specs.Table.{Row, row, start, identifier, secondOf, firstOf, stepAt, countOf, headAt, decode, rows, entryBytes, bytesOf, behind, headOf, encode}
+
+-- ---- a record
+module _ (s : List ℕ) (at : ℕ) (prev : Row) where
+  pub step-not : {why : Refusal} {p : ℕ} → readSigned 64 s at ≡ Refused why p → stepAt s at prev ≡ none why p
+  unfolding stepAt firstOf
+  step-not e = rw e
+
+  module _ {d : ℤ} {next : ℕ} (e : readSigned 64 s at ≡ Value d next) where
+    pub step-not-2 : {why : Refusal} {p : ℕ} → readSigned 64 s next ≡ Refused why p → stepAt s at prev ≡ none why p
+    unfolding stepAt firstOf secondOf
+    step-not-2 f = rw (e, f)
+
+    pub step-is : {a : ℤ} {past : ℕ} {x : Row} → readSigned 64 s next ≡ Value a past
+        → x ≡ row (residue 64 (pos (prev .offset) +ℤ d)) (wrapped 64 (prev .addend +ℤ a)) → stepAt s at prev ≡ one x past x
+    unfolding stepAt firstOf secondOf
+    step-is f g = rw (e, f, g)
+
+-- ---- the identifier and the count
+module _ (s : List ℕ) where
+  pub head-other : startsWith identifier s ≡ false → headAt s ≡ URefused Identifier 0
+  unfolding headAt
+  head-other e = rw e
+
+  module _ (e : startsWith identifier s ≡ true) where
+    pub head-not : {why : Refusal} {p : ℕ} → readSigned 64 s 4 ≡ Refused why p → headAt s ≡ URefused why p
+    unfolding headAt countOf
+    head-not f = rw (e, f)
+
+    pub head-is : {z : ℤ} {first : ℕ} → readSigned 64 s 4 ≡ Value z first → headAt s ≡ countOf (Value z first)
+    unfolding headAt
+    head-is f = rw (e, f)
+
+pub count-negative : (z : ℤ) (first : ℕ) → isNeg z ≡ true → countOf (Value z first) ≡ URefused Width 4
+unfolding countOf
+count-negative (pos n) first e = let o : _≡_ {A = ℕ} 0 1 = cc in absurd (omega arith)
+count-negative (negsuc n) first e = refl
+
+pub count-other : (z : ℤ) (first : ℕ) → isNeg z ≡ false → countOf (Value z first) ≡ UValue (mag z) first
+unfolding countOf
+count-other (pos n) first e = refl
+count-other (negsuc n) first e = let o : _≡_ {A = ℕ} 0 1 = cc in absurd (omega arith)
+
+-- ---- the whole
+pub decode-is : (s : List ℕ) → decode s ≡ counted (stepAt s) (length s) start (headAt s)
+unfolding decode
+decode-is s = refl
+
+-- ---- the records of columns
+module _ (os : List ℕ) (us : List ℤ) (same : length os ≡ length us) where
+  pub rows-length : length (rows os us) ≡ length os
+  unfolding rows
+  rows-length = zipped-length (map row os) us (length-map os row ∙ same) ∙ sym same
+
+  pub rows-from : (i : ℕ) → i < length os → drop i (rows os us) ≡ row (getD os i 0) (getD us i (pos 0)) ∷ drop (i + 1) (rows os us)
+  unfolding rows
+  rows-from i h = zipped-from (map row os) us i (map-from row os i (from os i 0 h)) (from us i (pos 0) (omega arith))
+
+-- ---- the bytes
+pub encode-is : (l : List Row) → encode l ≡ after (headOf (length l)) (puts bytesOf behind 0 start l)
+unfolding encode
+encode-is l = refl
+
+pub head-bytes : (n : ℕ) → headOf n ≡ identifier ++ shortSigned (pos n)
+unfolding headOf
+head-bytes n = refl
+
+pub entry-bytes : (prev x : Row) → entryBytes prev x ≡ shortSigned (wrapped 64 (pos (x .offset) -ℤ pos (prev .offset))) ++ shortSigned (wrapped 64 (x .addend -ℤ prev .addend))
+unfolding entryBytes
+entry-bytes prev x = refl
+
+pub entry-most : (prev x : Row) → length (entryBytes prev x) ≤ 20
+entry-most prev x =
+    let d = wrapped 64 (pos (x .offset) -ℤ pos (prev .offset)) in
+    let a = wrapped 64 (x .addend -ℤ prev .addend) in
+    rw (entry-bytes prev x) (omega (arith, length-append (shortSigned d) (shortSigned a), signed-bytes 64 d (omega arith) (wrapped-range 64 (omega arith) _), signed-bytes 64 a (omega arith) (wrapped-range 64 (omega arith) _)))
+
+pub head-most : (n : ℕ) → n < 2 ^ 63 → length (headOf n) ≤ 14
+head-most n h = rw (head-bytes n) (omega (arith, length-append identifier (shortSigned (pos n)), signed-bytes 64 (pos n) (omega arith) h))

@@ -1,0 +1,1 @@
+// APA1 tables: their definitions and their laws.
