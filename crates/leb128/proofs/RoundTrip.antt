@@ -1,19 +1,19 @@
 -- What a reader answers of the shortest form: the number, and the place past it.
 -- Assumes nothing.
-use mathlib.Core.Path.{_≡_, refl, sym, ap, _∙_, subst}
-use mathlib.Core.List.{List, [], _∷_, _++_}
-use mathlib.Core.Bool.{Bool, true, false, cond}
+use mathlib.Core.Path.{_≡_, refl, sym, ap, _∙_}
+use mathlib.Core.List.{List, _∷_, _++_}
+use mathlib.Core.Bool.{Bool, true, false}
 use Prim.Native.Nat.{ℕ, zero, suc, _+_, _-_, _*_, _/_, _%_, _^_, _≤_, _<_}
 use native.Mathlib.Nat.{mul-le-mul-right}
 use native.Mathlib.Numerals.{add-one}
 use native.Mathlib.Omega.{arith}
 use lib.ListN.{length, drop}
-use lib.Dec.{ltb, lit<, lit≤}
+use lib.Dec.{lit<, lit≤}
 use lib.Pow.{pow-add, pow-mono}
 use lib.IntN.{ℤ, pos, negsuc}
 use lib.Signed.{mag}
 use borrow.Author.Tests.{lt-ltb, le-ltb}
-use Rattle.leb128.specs.Number.{Raw, got, more, raw, count, readUnsigned, signed, readSigned, turn, short, shortUnsigned, isNeg, shortSigned}
+use Rattle.leb128.specs.Number.{got, more, raw, count, readUnsigned, signed, readSigned, turn, short, shortUnsigned, isNeg, shortSigned}
 use Rattle.leb128.specs.declared.Unsigned.the-variants.{Value as UValue}
 use Rattle.leb128.specs.declared.Signed.the-variants.{Value as SValue}
 use Rattle.leb128.proofs.Reading.{pow-step, half}

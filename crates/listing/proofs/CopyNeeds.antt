@@ -9,7 +9,7 @@ use lib.ListN.{length, take, drop, getD, set}
 use lib.Seq.{take-suc, length-take-le}
 use borrow.Author.Needs.{needs}
 use Rattle.answer.specs.declared.Answer.{Answer}
-use Rattle.answer.specs.Outcome.{Outcome, accepted, success, noRoom}
+use Rattle.answer.specs.Outcome.{accepted, success, noRoom}
 use Rattle.answer.specs.Outcome.Laws.{Counted, answer-fits, answer-long, filled-self, filled-long, buffer-more, buffer-long}
 use Rattle.listing.specs.Text.{textOf, textRoom}
 use Rattle.listing.specs.Contract.{Lists}

@@ -1,18 +1,12 @@
 -- The first line, test by test.
 -- Assumes nothing.
-use mathlib.Core.Path.{_≡_, refl, sym, _∙_}
+use mathlib.Core.Path.{_≡_, sym, _∙_}
 use mathlib.Core.Bool.{Bool, true, false}
 use mathlib.Core.List.{List}
-use Prim.Native.Nat.{ℕ, _≤_, _<_}
-use native.Mathlib.Decide.{decLt}
-use native.Mathlib.Omega.{arith}
-use lib.ListN.{length}
+use Prim.Native.Nat.{ℕ}
 use borrow.Author.Needs.{needs}
 use Rattle.records.specs.Identifier.{startsWith}
-use Rattle.records.specs.Identifier.Laws.{starts-short}
-use Rattle.listing.specs.declared.kind.Kind.{Kind}
 use Rattle.listing.specs.declared.kind.Kind.the-variants.{Relr32, Relr64, Apr1, Apa1, Relleb32, Relleb64}
-use Rattle.listing.specs.declared.kind.Line.{Line}
 use Rattle.listing.specs.declared.kind.Line.the-variants.{Names, Unknown}
 use Rattle.listing.specs.Text.{lineOf, firstLine}
 

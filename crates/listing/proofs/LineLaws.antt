@@ -13,7 +13,7 @@ use Rattle.listing.specs.declared.kind.Kind.{Kind}
 use Rattle.listing.specs.declared.kind.Kind.the-variants.{Relr32, Relr64, Apr1, Apa1, Relleb32, Relleb64}
 use Rattle.listing.specs.declared.kind.Line.{Line}
 use Rattle.listing.specs.declared.kind.Line.the-variants.{Names, Unknown}
-use Rattle.listing.specs.Text.{feed, nameOf, lineOf, firstLine}
+use Rattle.listing.specs.Text.{feed, nameOf, firstLine}
 use Rattle.listing.proofs.TableNeeds.{line-starts}
 
 -- no byte of a list is a line feed

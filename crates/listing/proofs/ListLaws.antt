@@ -1,23 +1,21 @@
 -- What a caller of `list` may go by: every text has room in textRoom bytes, and depends on the first heldBytes of its input.
 -- Assumes nothing.
-use Prim.Native.Nat.{ℕ, zero, suc, _+_, _-_, _≤_, _<_}
+use Prim.Native.Nat.{ℕ, zero, suc, _≤_, _<_}
 use mathlib.Core.Path.{_≡_, refl, ap, sym, _∙_}
-use mathlib.Core.Bool.{false}
-use mathlib.Core.List.{List, [], _∷_, _++_}
+use mathlib.Core.List.{List, [], _∷_}
 use native.Mathlib.Decide.{decLt}
 use native.Mathlib.Omega.{arith}
-use lib.Dec.{eqb}
 use lib.ListN.{length, take, drop, length-append, length-drop}
 use lib.Seq.{take-all, take-append-seam, length-take-le}
 use Rattle.answer.specs.declared.Answer.{Answer}
-use Rattle.answer.specs.Outcome.{pick, success}
+use Rattle.answer.specs.Outcome.{success}
 use Rattle.answer.specs.Outcome.Laws.{answer-fits, filled-self, filled-long}
 use Rattle.records.specs.Identifier.{startsWith}
 use Rattle.listing.specs.declared.kind.Kind.{Kind}
 use Rattle.listing.specs.declared.kind.Kind.the-variants.{Relr32, Relr64, Apr1, Apa1, Relleb32, Relleb64}
 use Rattle.listing.specs.declared.kind.Line.{Line}
 use Rattle.listing.specs.declared.kind.Line.the-variants.{Names, Unknown}
-use Rattle.listing.specs.Text.{lineOf, firstLine, tableLimit, heldBytes, textRoom, textOf}
+use Rattle.listing.specs.Text.{lineOf, firstLine, heldBytes, textRoom, textOf}
 use Rattle.listing.specs.Text.Laws.{text-unknown, text-limit}
 use Rattle.listing.specs.Contract.{Lists}
 

@@ -1,20 +1,20 @@
 -- Fields, lines and lists of lines on a page, as the code asks it.
 -- Assumes nothing.
-use Prim.Native.Nat.{ℕ, suc, _+_, _*_, _^_, _≤_, _<_}
-use mathlib.Core.Path.{_≡_, refl, ap, sym, _∙_}
+use Prim.Native.Nat.{ℕ, _+_, _*_, _^_, _≤_, _<_}
+use mathlib.Core.Path.{_≡_, refl, ap, _∙_}
 use mathlib.Core.Bool.{Bool, true, false}
 use mathlib.Core.List.{List, [], _∷_, _++_, append-assoc}
 use native.Mathlib.Numerals.{add-one}
 use native.Mathlib.Omega.{arith}
 use lib.IntN.{ℤ, pos}
 use lib.ListN.{length, getD}
-use lib.Seq.{sets, length-sets}
+use lib.Seq.{length-sets}
 use lib.Signed.{mag}
 use mir.Syntax.{w64}
 use mir.Val.{SFits}
 use mir.Facts.{toZ-ofZ}
 use borrow.Author.Needs.{needs, sfits-of}
-use Rattle.relleb_table.specs.Table.{Row, row}
+use Rattle.relleb_table.specs.Table.{row}
 use Rattle.listing.specs.declared.kind.Kind.{Kind}
 use Rattle.listing.specs.Text.{decimal, decimalSigned, hasType, hasAddend, header, field, rowText, rowAt, rowsTo}
 use Rattle.listing.specs.Inner.{Puts, Room}

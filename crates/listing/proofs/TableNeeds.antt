@@ -6,10 +6,9 @@ use mathlib.Core.Bool.{Bool, true, false}
 use mathlib.Core.List.{List, [], _∷_, _++_, map}
 use native.Mathlib.Decide.{decLt}
 use native.Mathlib.Omega.{arith}
-use lib.Dec.{leb}
 use lib.IntN.{ℤ, pos}
 use lib.ListN.{length, take, drop, getD, length-drop, length-map, List·getD-append, List·getD-map}
-use lib.Seq.{take-all, take-append-seam, sets, sets-eq, length-sets}
+use lib.Seq.{take-all, take-append-seam, sets-eq, length-sets}
 use borrow.Author.Needs.{needs}
 use Rattle.answer.specs.declared.Answer.{Answer}
 use Rattle.answer.specs.Outcome.{Outcome, accepted, pick, success, answerIn, filled}
@@ -33,8 +32,8 @@ use Rattle.listing.specs.declared.kind.Kind.{Kind}
 use Rattle.listing.specs.declared.kind.Kind.the-variants.{Relr32, Relr64, Apr1, Apa1, Relleb32, Relleb64}
 use Rattle.listing.specs.declared.kind.Line.{Line}
 use Rattle.listing.specs.declared.kind.Line.the-variants.{Names, Unknown}
-use Rattle.listing.specs.Text.{decimal, lineOf, tried, firstLine, hasType, hasAddend, offsetRow, pairRow, mapped, rowsOf, header, tab, feed, refusedWord, rowText, rowsFrom, rowAt, rowsTo, refusalText, recordLimit, tableLimit, printed, textOf}
-use Rattle.listing.specs.Text.Laws.{answer-mapped, Source, source, offset-line, pair-line, rows-all, printed-rows, printed-refusal, text-unknown, text-limit, text-table}
+use Rattle.listing.specs.Text.{decimal, lineOf, tried, firstLine, hasType, hasAddend, offsetRow, pairRow, mapped, rowsOf, header, refusedWord, rowText, rowAt, rowsTo, refusalText, recordLimit, tableLimit, printed, textOf}
+use Rattle.listing.specs.Text.Laws.{answer-mapped, source, offset-line, pair-line, rows-all, printed-rows, printed-refusal, text-unknown, text-limit, text-table}
 use Rattle.listing.specs.Inner.{Puts, Room, Readable, Reads, Shows}
 use Rattle.listing.proofs.PutNeeds.{put-put}
 

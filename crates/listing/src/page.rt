@@ -1,5 +1,5 @@
 // Bytes put on a page one after the other: each call answers the next place.
-ghost use mathlib.Core.List.{List, [], _∷_};
+ghost use mathlib.Core.List.{[], _∷_};
 ghost use Prim.Native.Nat.{_+_, _≤_};
 ghost use lib.ListN.{length};
 ghost use Rattle.listing.specs.Inner.{Puts};

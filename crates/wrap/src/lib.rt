@@ -1,6 +1,6 @@
 // Sums and differences that wrap at a width, of unsigned and of signed numbers.
 ghost use mathlib.Core.Path.{_≡_};
-ghost use Prim.Native.Nat.{ℕ, _+_, _-_, _%_, _^_, _≤_, _<_};
+ghost use Prim.Native.Nat.{_+_, _-_, _%_, _^_, _<_};
 ghost use lib.Dec.{ltb};
 ghost use lib.Signed.{mag};
 ghost use lib.IntN.{pos, negsuc, _+ℤ_, _-ℤ_};
