@@ -6,7 +6,7 @@ use mathlib.Core.List.{List}
 use lib.ListN.{length}
 use lib.Seq.{sets}
 use Rattle.answer.specs.Outcome.{refused, listLimit}
-use Rattle.apr1_table.specs.Table.{last, run, pairBytes, encode}
+use Rattle.apr1_table.specs.Table.{last, pairBytes, encode}
 use Rattle.apr1_write.specs.declared.Sized.{Sized}
 use Rattle.apr1_write.specs.declared.Sized.the-variants as sized
 use Rattle.apr1_table.specs.Inner.{Rising, pairsIn, tableIn}

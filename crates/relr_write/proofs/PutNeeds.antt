@@ -2,7 +2,7 @@
 -- Assumes nothing.
 use mathlib.Core.Bool.{Bool, true, false, cond}
 use mathlib.Core.List.{List, [], _∷_, _++_, append-assoc, append-nil}
-use mathlib.Core.Path.{_≡_, refl, sym, ap, subst, _∙_}
+use mathlib.Core.Path.{_≡_, sym, ap, subst, _∙_}
 use Prim.Native.Nat.{ℕ, _+_, _-_, _*_, _%_, _^_, _≤_, _<_}
 use native.Mathlib.Numerals.{add-one}
 use native.Mathlib.Omega.{arith}
@@ -20,7 +20,7 @@ use Rattle.answer.specs.declared.Found.{Found}
 use Rattle.answer.specs.declared.Found.the-variants.{Count}
 use Rattle.answer.specs.declared.Found.the-variants as found
 use Rattle.answer.specs.Outcome.{accepted, refused, foundOf, success, refusal, noRoom, listLimit}
-use Rattle.answer.specs.Outcome.Laws.{Counted, counted, not-found, sets-append, buffer-more, buffer-long, filled-self, filled-long, filled-refused, answer-fits, answer-long, answer-refused}
+use Rattle.answer.specs.Outcome.Laws.{Counted, counted, not-found, buffer-more, buffer-long, filled-self, filled-long, filled-refused, answer-fits, answer-long, answer-refused}
 use Rattle.word.specs.declared.Class.{Class}
 use Rattle.word.specs.Class.{bytesOf, windowOf}
 use Rattle.word.specs.Word.{withWord, bytesOfWords}

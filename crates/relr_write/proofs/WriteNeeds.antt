@@ -9,7 +9,7 @@ use native.Mathlib.Numerals.{add-one}
 use native.Mathlib.Omega.{arith}
 use native.Mathlib.Decide.{ℕ-discrete}
 use lib.Dec.{ltb, eqb}
-use lib.ListN.{length, getD, drop, length-append, drop-of-length-le}
+use lib.ListN.{length, getD, drop, drop-of-length-le}
 use lib.Pow.{pow-mono}
 use lib.Seq.{drop-cons}
 use mir.Syntax.{w64}
@@ -21,12 +21,12 @@ use Rattle.answer.specs.declared.Refusal.the-variants.{Order, Space, Odd}
 use Rattle.answer.specs.declared.Found.the-variants.{Count}
 use Rattle.answer.specs.declared.Found.the-variants as found
 use Rattle.answer.specs.Outcome.{Outcome, accepted, refused, foundOf, listLimit}
-use Rattle.answer.specs.Outcome.Laws.{accepted-refused, counted, found-accepted, found-refused}
+use Rattle.answer.specs.Outcome.Laws.{accepted-refused, found-accepted, found-refused}
 use Rattle.word.specs.declared.Class.{Class}
 use Rattle.word.specs.Class.{bytesOf, bitsOf, windowOf}
 use Rattle.word.specs.Class.Laws.{bytes-least, bytes-most}
 use Rattle.word.specs.Word.Laws.{bytes-words-length}
-use Rattle.relr_table.specs.Words.{Where, nowhere, from, falls, bit, word, first, write, table, Legal}
+use Rattle.relr_table.specs.Words.{Where, nowhere, from, falls, bit, word, write, table, Legal}
 use Rattle.relr_table.specs.Table.{spaceOf, checked}
 use Rattle.relr_table.specs.Place.{Place, Nowhere, unset}
 use Rattle.relr_write.specs.declared.packer.Pending.{Pending}

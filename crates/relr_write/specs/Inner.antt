@@ -7,7 +7,7 @@ use Prim.Native.Nat.{ℕ, suc, _+_, _-_, _*_, _^_, _%_, _/_, _≤_, _<_}
 use lib.Dec.{ltb, eqb}
 use lib.ListN.{length, drop}
 use Rattle.answer.specs.declared.Refusal.the-variants.{Order, Space, Odd}
-use Rattle.answer.specs.Outcome.{Outcome, accepted, after}
+use Rattle.answer.specs.Outcome.{Outcome, accepted}
 use Rattle.word.specs.declared.Class.{Class}
 use Rattle.word.specs.Class.{bytesOf, windowOf}
 use Rattle.word.specs.Word.{bytesOfWords}

@@ -1,7 +1,6 @@
 // The writer's step: what the next offset does to the words of a table.
 ghost use mathlib.Core.Path.{_≡_};
 ghost use Prim.Native.Nat.{_+_, _%_, _^_, _≤_, _<_};
-ghost use lib.ListN.{length};
 ghost use Rattle.word.specs.Class.{bytesOf};
 ghost use Rattle.relr_table.specs.Table.{spaceOf};
 ghost use Rattle.relr_write.specs.Inner.{InWords, Near, LocatedAt, Small, ForwardFrom, Packs};

@@ -17,7 +17,7 @@ use Rattle.leb128.specs.declared.Unsigned.the-variants.{Value as UValue, Refuse
 use Rattle.records.specs.Columns.Laws.{from, map-from, zipped-from, zipped-length}
 use Rattle.records.specs.Identifier.{startsWith}
 use Rattle.records.specs.Reading.{one, none, counted}
-use Rattle.records.specs.Writing.{bytes, puts}
+use Rattle.records.specs.Writing.{puts}
 use Rattle.leb128.proofs.RoundTrip.{signed-bytes}
 use Rattle.wrap.specs.Wrap.{residue, wrapped}
 use Rattle.wrap.specs.Wrap.Laws.{wrapped-range}
