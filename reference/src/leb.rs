@@ -2,7 +2,7 @@
 
 use crate::Answer;
 
-/// The kinds of number that the tables use.
+/// Signedness and width of a number.
 #[derive(Clone, Copy, PartialEq, Eq, Debug)]
 pub enum Kind {
     Unsigned(u32),
@@ -34,6 +34,8 @@ pub fn last_byte_allowed(kind: Kind, byte: u8) -> bool {
     match kind {
         Unsigned(32) => byte <= 15,
         Signed(32) => byte <= 7 || (120..=127).contains(&byte),
+        // no table uses this one; the sentence before the table gives it
+        Unsigned(33) => byte <= 31,
         Signed(33) => byte <= 15 || (112..=127).contains(&byte),
         Unsigned(64) => byte <= 1,
         Signed(64) => byte == 0 || byte == 127,

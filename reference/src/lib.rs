@@ -8,6 +8,7 @@ pub mod apr1;
 pub mod corpus;
 pub mod leb;
 pub mod listing;
+pub mod published;
 pub mod relleb;
 pub mod relr;
 

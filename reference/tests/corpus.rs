@@ -2,6 +2,7 @@
 
 use reference::corpus::case::{Case, NAMES, RELR_READ, decode, fnv1a};
 use reference::corpus::{Named, all, hand, long, pairs};
+use reference::published;
 
 fn decoding_gives_back(cases: &[Named], most: usize) {
     let mut file = Vec::new();
@@ -62,6 +63,12 @@ fn one_case_byte_by_byte() {
     ]
     .concat();
     assert_eq!(bytes, want);
+}
+
+/// What crate `cases` must print is what is written here.
+#[test]
+fn published_text() {
+    assert_eq!(published::text(), include_str!("../../crates/cases/stdout"));
 }
 
 /// The published values of 64-bit FNV-1a.

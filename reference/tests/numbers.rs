@@ -2,49 +2,24 @@
 
 use reference::Answer;
 use reference::corpus::rng::Rng;
+use reference::corpus::tables::{number, padded};
 use reference::leb::{self, Kind, Kind::Signed, Kind::Unsigned};
+use reference::published::EXAMPLES;
 
-const KINDS: [Kind; 5] = [Unsigned(32), Signed(32), Signed(33), Unsigned(64), Signed(64)];
+const KINDS: [Kind; 6] =
+    [Unsigned(32), Signed(32), Unsigned(33), Signed(33), Unsigned(64), Signed(64)];
 
 fn refused(number: u32, place: u64) -> Result<(i128, usize), Answer> {
     Err(Answer { number, place, count: 0 })
 }
 
-/// The examples that the DWARF standard prints.
+/// The published examples, at every width.
 #[test]
-fn dwarf_examples() {
-    let unsigned: [(u64, &[u8]); 6] = [
-        (2, &[0x02]),
-        (127, &[0x7F]),
-        (128, &[0x80, 0x01]),
-        (129, &[0x81, 0x01]),
-        (130, &[0x82, 0x01]),
-        (12857, &[0xB9, 0x64]),
-    ];
-    for (value, bytes) in unsigned {
-        let mut made = Vec::new();
-        leb::write_unsigned(value, &mut made);
-        assert_eq!(made, bytes);
-        assert_eq!(leb::read(bytes, 0, Unsigned(32)), Ok((value as i128, bytes.len())));
-        assert_eq!(leb::read(bytes, 0, Unsigned(64)), Ok((value as i128, bytes.len())));
-    }
-    let signed: [(i64, &[u8]); 8] = [
-        (2, &[0x02]),
-        (-2, &[0x7E]),
-        (127, &[0xFF, 0x00]),
-        (-127, &[0x81, 0x7F]),
-        (128, &[0x80, 0x01]),
-        (-128, &[0x80, 0x7F]),
-        (129, &[0x81, 0x01]),
-        (-129, &[0xFF, 0x7E]),
-    ];
-    for (value, bytes) in signed {
-        let mut made = Vec::new();
-        leb::write_signed(value, &mut made);
-        assert_eq!(made, bytes);
-        for width in [32, 33, 64] {
-            let got = leb::read(bytes, 0, Signed(width));
-            assert_eq!(got, Ok((value as i128, bytes.len())));
+fn published_examples() {
+    for (kind, value, bytes) in EXAMPLES {
+        for same in KINDS.into_iter().filter(|other| other.signed() == kind.signed()) {
+            assert_eq!(number(same, value), bytes);
+            assert_eq!(leb::read(bytes, 0, same), Ok((value, bytes.len())));
         }
     }
 }
@@ -89,7 +64,7 @@ fn last_byte_at_every_value() {
 #[test]
 fn most_bytes() {
     let most: Vec<usize> = KINDS.iter().map(|kind| kind.most_bytes()).collect();
-    assert_eq!(most, [5, 5, 5, 10, 10]);
+    assert_eq!(most, [5, 5, 5, 5, 10, 10]);
 }
 
 #[test]
@@ -115,7 +90,6 @@ fn place_and_next_place() {
 /// Padding inside the allowed length changes nothing; writing is shortest.
 #[test]
 fn padding_and_shortest() {
-    use reference::corpus::tables::{number, padded};
     let mut rng = Rng::new(2);
     for _ in 0..2_000 {
         for kind in KINDS {

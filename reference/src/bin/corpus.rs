@@ -1,9 +1,10 @@
 //! Writes the corpus into a folder, which is the first argument and the
 //! repository without one: what crate `vectors` reads and must print, the long
-//! cases, the cases' names and the page of counts. FORMAT.md tells the files.
-//! They are the same at every run.
+//! cases, the cases' names, the page of counts, and what crate `cases` must
+//! print. FORMAT.md tells the files. They are the same at every run.
 
 use reference::corpus::{Named, all, hand, long, pairs};
+use reference::published;
 use std::fs;
 use std::path::{Path, PathBuf};
 
@@ -16,6 +17,7 @@ fn main() {
     write_cases(&root, &long, &in_corpus("long"), &in_corpus("long.txt"), "long-names.txt");
     let page = pairs::markdown(&cases, &hand::cases(), &long);
     write(&root, "docs/CORPUS.md", page.as_bytes());
+    write(&root, "crates/cases/stdout", published::text().as_bytes());
 }
 
 fn in_corpus(name: &str) -> String {

@@ -5,10 +5,10 @@ use super::hand::{Hand, hand, rooms};
 use super::tables::relr_bytes;
 
 /// The end of each class's address space, less one word, and outside it.
-const TOP4: u64 = 0xFFFF_FFFC;
-const OUT4: u64 = 0xFFFF_FFFE;
-const TOP8: u64 = 0xFFFF_FFFF_FFFF_FFF8;
-const OUT8: u64 = 0xFFFF_FFFF_FFFF_FFFA;
+pub const TOP4: u64 = 0xFFFF_FFFC;
+pub const OUT4: u64 = 0xFFFF_FFFE;
+pub const TOP8: u64 = 0xFFFF_FFFF_FFFF_FFF8;
+pub const OUT8: u64 = 0xFFFF_FFFF_FFFF_FFFA;
 
 const BAD_CLASSES: [u32; 12] = [0, 1, 2, 3, 5, 6, 7, 9, 32, 64, 0x0100_0004, 0xFFFF_FFFF];
 
