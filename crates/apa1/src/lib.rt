@@ -2,8 +2,6 @@
 ghost use Rattle.apa1_table.specs.Contract.{Reads, Writes};
 use answer::Answer;
 use answer::Found;
-use answer::INPUT_LIMIT;
-use answer::LIST_LIMIT;
 use answer::Refusal;
 
 // The records of a table, into a column of offsets and one of addends.
@@ -13,10 +11,7 @@ pub fn read(table: &[u8], offsets: &mut [u64], addends: &mut [i64]) -> Answer
     if offsets.len() != addends.len() {
         return answer::refuse(Refusal::Columns, 0);
     }
-    if INPUT_LIMIT < table.len() {
-        return answer::refuse(Refusal::Limit, 0);
-    }
-    match apa1_read::scan(table) {
+    match apa1_read::check(table) {
         Found::Refused(why, place) => answer::refuse(why, place),
         Found::Count(count) => {
             if (offsets.len() as u64) < count {
@@ -35,13 +30,14 @@ pub fn write(offsets: &[u64], addends: &[i64], table: &mut [u8]) -> Answer
     if offsets.len() != addends.len() {
         return answer::refuse(Refusal::Columns, 0);
     }
-    if LIST_LIMIT < offsets.len() {
-        return answer::refuse(Refusal::Limit, 0);
+    match apa1_write::measure(offsets, addends) {
+        Found::Refused(why, place) => answer::refuse(why, place),
+        Found::Count(need) => {
+            if (table.len() as u64) < need {
+                return answer::short_of(need);
+            }
+            apa1_write::fill(offsets, addends, table);
+            answer::accept(need)
+        }
     }
-    let need = apa1_write::size(offsets, addends);
-    if (table.len() as u64) < need {
-        return answer::short_of(need);
-    }
-    apa1_write::fill(offsets, addends, table);
-    answer::accept(need)
 }

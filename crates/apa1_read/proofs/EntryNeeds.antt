@@ -14,48 +14,30 @@ use borrow.Author.Tests.{not-true, not-false}
 use Rattle.answer.specs.declared.Refusal.{Refusal}
 use Rattle.answer.specs.declared.Refusal.the-variants.{Identifier, Width}
 use Rattle.leb128.specs.Number.{readSigned, isNeg}
+use Rattle.leb128.specs.Cause.{signedCause, signed-cause}
+use Rattle.leb128.specs.declared.Cause.{Cause}
 use Rattle.leb128.specs.declared.Signed.{Signed}
 use Rattle.leb128.specs.declared.Signed.the-variants.{Value as SValue, Refused as SRefused}
-use Rattle.leb128.specs.declared.Unsigned.{Unsigned}
 use Rattle.leb128.specs.declared.Unsigned.the-variants.{Value as UValue, Refused as URefused}
 use Rattle.records.specs.Identifier.{startsWith}
-use Rattle.records.specs.Reading.{one}
+use Rattle.records.specs.Reading.{one, none}
 use Rattle.wrap.specs.Wrap.{residue, wrapped}
-use Rattle.apa1_read.specs.declared.Entry.{Entry}
-use Rattle.apa1_read.specs.declared.Entry.the-variants.{Refused}
 use Rattle.apa1_table.specs.Table.{row, identifier, stepAt, headAt}
 use Rattle.apa1_table.specs.Table.Laws.{step-not, step-not-2, step-is, head-other, head-not, head-is, count-negative, count-other}
-use Rattle.apa1_read.specs.Inner.{entryStep, entryWithout, headWithout, Skips}
+use Rattle.apa1_read.specs.Inner.{Skips}
 
--- ---- a number that is refused
-module _ {r : Signed} where
-  module _ {why : Refusal} {p : ℕ} (e : r ≡ SRefused why p) where
-    pub entry-refused : Refused why p ≡ entryWithout r
-    entry-refused = ap entryWithout (sym e)
-
-    pub head-refused : URefused why p ≡ headWithout r
-    head-refused = ap headWithout (sym e)
-
-  module _ {z : ℤ} {next : ℕ} (e : r ≡ SValue z next) where
-    pub entry-asked : Refused Width next ≡ entryWithout r
-    entry-asked = ap entryWithout (sym e)
-
-    pub head-asked : URefused Width next ≡ headWithout r
-    head-asked = ap headWithout (sym e)
-
-pub ruleset withouts = (entry-refused, head-refused, entry-asked, head-asked, needs)
-
--- ---- a record
+-- a signed number as the code passes it on: by its bits
 abbrev Bits : ℤ → ℤ
 Bits z = toZ w64 (ofZ w64 z)
 
+-- ---- a record
 module _ (s : List ℕ) (at o : ℕ) (a : ℤ) {r : Signed} (e : r ≡ readSigned 64 s at) where
-  pub entry-not : {x : Entry} {why : Refusal} {p : ℕ} → r ≡ SRefused why p → x ≡ entryWithout r → entryStep x ≡ stepAt s at (row o a)
-  entry-not f g = ap entryStep (g ∙ ap entryWithout f) ∙ sym (step-not s at (row o a) (sym e ∙ f))
+  pub entry-not : {k : Cause} {why : Refusal} {p : ℕ} → r ≡ SRefused why p → k ≡ signedCause r → none (k .why) (k .place) ≡ stepAt s at (row o a)
+  entry-not f g = sym (step-not s at (row o a) (sym e ∙ signed-cause f g))
 
   module _ {d : ℤ} {next : ℕ} (f : r ≡ SValue d next) {t : Signed} (g : t ≡ readSigned 64 s next) where
-    pub entry-not-2 : {x : Entry} {why : Refusal} {p : ℕ} → t ≡ SRefused why p → x ≡ entryWithout t → entryStep x ≡ stepAt s at (row o a)
-    entry-not-2 h k = ap entryStep (k ∙ ap entryWithout h) ∙ sym (step-not-2 s at (row o a) (sym e ∙ f) (sym g ∙ h))
+    pub entry-not-2 : {k : Cause} {why : Refusal} {p : ℕ} → t ≡ SRefused why p → k ≡ signedCause t → none (k .why) (k .place) ≡ stepAt s at (row o a)
+    entry-not-2 h q = sym (step-not-2 s at (row o a) (sym e ∙ f) (sym g ∙ signed-cause h q))
 
     -- m and z are the sums
     pub entry-is : {b : ℤ} {past m : ℕ} {z : ℤ} → t ≡ SValue b past → m ≡ residue 64 (pos o +ℤ Bits d) → z ≡ wrapped 64 (Bits a +ℤ Bits b)
@@ -85,8 +67,8 @@ module _ (s : List ℕ) {t : Bool} (e : t ≡ startsWith identifier s) where
   head-none f = sym (head-other s (sym e ∙ not-true t f))
 
   module _ (n : not t ≡ false) {r : Signed} (g : r ≡ readSigned 64 s 4) where
-    pub head-bad : {x : Unsigned} {why : Refusal} {p : ℕ} → r ≡ SRefused why p → x ≡ headWithout r → x ≡ headAt s
-    head-bad h k = k ∙ ap headWithout h ∙ sym (head-not s (sym e ∙ not-false t n) (sym g ∙ h))
+    pub head-bad : {k : Cause} {why : Refusal} {p : ℕ} → r ≡ SRefused why p → k ≡ signedCause r → URefused (k .why) (k .place) ≡ headAt s
+    head-bad h k = sym (head-not s (sym e ∙ not-false t n) (sym g ∙ signed-cause h k))
 
     module _ {z : ℤ} {first : ℕ} (h : r ≡ SValue z first) {b : Bool} (k : b ≡ isNeg (Bits z)) (i : Bits z ≡ z) where
       sign : b ≡ isNeg z

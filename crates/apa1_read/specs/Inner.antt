@@ -3,11 +3,8 @@
 use Prim.Native.Nat.{ℕ}
 use mathlib.Core.Path.{_≡_}
 use mathlib.Core.List.{List}
-use Rattle.answer.specs.declared.Refusal.the-variants.{Width}
 use Rattle.leb128.specs.declared.Signed.{Signed}
 use Rattle.leb128.specs.declared.Signed.the-variants.{Value as SValue, Refused as SRefused}
-use Rattle.leb128.specs.declared.Unsigned.{Unsigned}
-use Rattle.leb128.specs.declared.Unsigned.the-variants.{Refused as URefused}
 use Rattle.records.specs.Reading.{Step, one, none}
 use Rattle.apa1_read.specs.declared.Entry.{Entry}
 use Rattle.apa1_read.specs.declared.Entry.the-variants.{Record, Refused}
@@ -17,15 +14,6 @@ use Rattle.apa1_table.specs.Table.{Row, row, stepAt}
 abbrev pub entryStep : Entry → Step Row Row
 entryStep (Record o a past) = one (row o a) past (row o a)
 entryStep (Refused why p) = none why p
-
--- what is left of a record whose number is refused: its refusal. (A value is never asked.)
-abbrev pub entryWithout : Signed → Entry
-entryWithout (SRefused why p) = Refused why p
-entryWithout (SValue z next) = Refused Width next
-
-abbrev pub headWithout : Signed → Unsigned
-headWithout (SRefused why p) = URefused why p
-headWithout (SValue z next) = URefused Width next
 
 -- what two numbers at a place are, whatever record stands before: a record that ends where the second does, or a refusal
 abbrev pub Skips : List ℕ → ℕ → Signed → Type 0

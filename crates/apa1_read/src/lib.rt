@@ -4,11 +4,12 @@ ghost use lib.ListN.{length};
 ghost use Rattle.answer.specs.Outcome.{foundOf};
 ghost use Rattle.records.specs.Identifier.{startsWith};
 ghost use Rattle.records.specs.Reading.{records};
-ghost use Rattle.apa1_table.specs.Table.{row, identifier, start, stepAt, headAt, decode};
+ghost use Rattle.apa1_table.specs.Table.{row, identifier, start, stepAt, headAt, parse, decode};
 ghost use Rattle.apa1_table.specs.Contract.{Filled};
 ghost use Rattle.apa1_table.specs.Inner.{Fillable};
-ghost use Rattle.apa1_read.specs.Inner.{entryStep, entryWithout, headWithout, Skips};
+ghost use Rattle.apa1_read.specs.Inner.{entryStep, Skips};
 use answer::Found;
+use answer::INPUT_LIMIT;
 use answer::Refusal;
 use leb128::Signed;
 use leb128::Unsigned;
@@ -19,27 +20,21 @@ pub enum Entry {
     Refused(Refusal, usize),
 }
 
-// The refusal of a number, as its record's.
-fn without(number: Signed) -> Entry
-    ensures { λ r. ⌜ r ≡ entryWithout number ⌝ }
-{
-    match number {
-        Signed::Refused(why, place) => Entry::Refused(why, place),
-        Signed::Value(_, next) => Entry::Refused(Refusal::Width, next),
-    }
-}
-
 // The record at a place, after one with this offset and this addend.
 fn entry_at(s: &[u8], at: usize, offset: u64, addend: i64) -> Entry
     ensures { λ r. ⌜ entryStep r ≡ stepAt (now (s .entry)) at (row offset addend) ⌝ }
 {
     let first = leb128::read_signed(s, at, 64);
     let Signed::Value(d, next) = first else {
-        return without(first);
+        let cause = first.cause();
+        let why = cause.why;
+        return Entry::Refused(why, cause.place);
     };
     let second = leb128::read_signed(s, next, 64);
     let Signed::Value(e, past) = second else {
-        return without(second);
+        let cause = second.cause();
+        let why = cause.why;
+        return Entry::Refused(why, cause.place);
     };
     Entry::Record(
         wrap::moved(64, offset, d),
@@ -59,16 +54,6 @@ fn skip_at(s: &[u8], at: usize) -> Signed
     leb128::read_signed(s, next, 64)
 }
 
-// The refusal of the count's number, as the count's.
-fn without_count(number: Signed) -> Unsigned
-    ensures { λ r. ⌜ r ≡ headWithout number ⌝ }
-{
-    match number {
-        Signed::Refused(why, place) => Unsigned::Refused(why, place),
-        Signed::Value(_, next) => Unsigned::Refused(Refusal::Width, next),
-    }
-}
-
 // Whether a table has APA1's identifier.
 fn identified(s: &[u8]) -> bool
     ensures { λ r. ⌜ r ≡ startsWith identifier (now (s .entry)) ⌝ }
@@ -85,7 +70,9 @@ fn head_of(s: &[u8]) -> Unsigned
     }
     let count = leb128::read_signed(s, 4, 64);
     let Signed::Value(n, first) = count else {
-        return without_count(count);
+        let cause = count.cause();
+        let why = cause.why;
+        return Unsigned::Refused(why, cause.place);
     };
     if leb128::is_negative(n) {
         return Unsigned::Refused(Refusal::Width, 4);
@@ -100,15 +87,14 @@ fn walk(s: &[u8], count: u64, first: usize) -> Found
     let mut left = count;
     let mut at = first;
     while 0 < left {
-        match skip_at(s, at) {
-            Signed::Refused(why, place) => {
-                return Found::Refused(why, place as u64);
-            }
-            Signed::Value(_, past) => {
-                at = past;
-                left -= 1;
-            }
-        }
+        let skipped = skip_at(s, at);
+        let Signed::Value(_, past) = skipped else {
+            let cause = skipped.cause();
+            let why = cause.why;
+            return Found::Refused(why, cause.place as u64);
+        };
+        at = past;
+        left -= 1;
     }
     if at < s.len() {
         return Found::Refused(Refusal::Trailing, at as u64);
@@ -116,15 +102,27 @@ fn walk(s: &[u8], count: u64, first: usize) -> Found
     Found::Count(count)
 }
 
-// The count of the records of a table, or the refusal.
-pub fn scan(s: &[u8]) -> Found
-    ensures { λ r. ⌜ r ≡ foundOf (decode (now (s .entry))) ⌝ }
+// The first pass over a table, however long it is.
+fn scan(s: &[u8]) -> Found
+    ensures { λ r. ⌜ r ≡ foundOf (parse (now (s .entry))) ⌝ }
 {
     let head = head_of(s);
     let Unsigned::Value(count, first) = head else {
-        return records::not_counted(head);
+        let cause = head.cause();
+        let why = cause.why;
+        return Found::Refused(why, cause.place as u64);
     };
     walk(s, count, first)
+}
+
+// The count of the records of a table, or the refusal: first that of a table over its limit.
+pub fn check(s: &[u8]) -> Found
+    ensures { λ r. ⌜ r ≡ foundOf (decode (now (s .entry))) ⌝ }
+{
+    if INPUT_LIMIT < s.len() {
+        return Found::Refused(Refusal::Limit, 0);
+    }
+    scan(s)
 }
 
 // The second pass over records that the first accepted.
@@ -155,7 +153,7 @@ fn store(s: &[u8], count: u64, first: usize, offsets: &mut [u64], addends: &mut 
     }
 }
 
-// The records of a table that `scan` accepted, in columns with room for them.
+// The records of a table that `check` accepted, in columns with room for them.
 pub fn fill(s: &[u8], offsets: &mut [u64], addends: &mut [i64])
     requires { ⌜ Fillable (decode (now s)) (now offsets) (now addends) ⌝ }
     ensures { λ _. ⌜ Filled (decode (now (s .entry))) (now (offsets .entry)) (now (addends .entry)) (now (offsets .exit)) (now (addends .exit)) ⌝ }

@@ -2,10 +2,11 @@
 -- Assumes nothing.
 use Prim.Native.Nat.{ℕ}
 use mathlib.Core.List.{List, [], _∷_, _++_, map}
+use mathlib.Core.Bool.{cond}
 use lib.IntN.{ℤ, pos, negsuc, _+ℤ_, _-ℤ_}
 use lib.ListN.{length}
 use Rattle.answer.specs.declared.Refusal.the-variants.{Identifier, Width}
-use Rattle.answer.specs.Outcome.{Outcome, pick, after}
+use Rattle.answer.specs.Outcome.{Outcome, inputLimit, listLimit, limited, after}
 use Rattle.leb128.specs.Number.{readSigned, shortSigned}
 use Rattle.leb128.specs.declared.Signed.{Signed}
 use Rattle.leb128.specs.declared.Signed.the-variants.{Value, Refused}
@@ -23,6 +24,7 @@ pub record Row : Type 0 where
   pub offset : ℕ
   pub addend : ℤ
 
+-- a record of its fields
 abbrev pub row : ℕ → ℤ → Row
 row o a = record { offset = o; addend = a }
 
@@ -43,6 +45,7 @@ secondOf prev d (Value e past) =
     one x past x
 secondOf prev d (Refused why p) = none why p
 
+-- the same from the number that is the offset's difference on
 unfoldable pub firstOf : List ℕ → Row → Signed → Step Row Row
 firstOf s prev (Value d next) = secondOf prev d (readSigned 64 s next)
 firstOf s prev (Refused why p) = none why p
@@ -59,11 +62,15 @@ countOf (Refused why p) = URefused why p
 
 -- the identifier and the count: a signed number of 64 bits
 unfoldable pub headAt : List ℕ → Unsigned
-headAt s = pick (startsWith identifier s) (countOf (readSigned 64 s (length identifier))) (URefused Identifier 0)
+headAt s = cond (startsWith identifier s) (countOf (readSigned 64 s (length identifier))) (URefused Identifier 0)
 
--- the whole input: the identifier, the count, and that many records
+-- what the bytes say, however many they are: the identifier, the count, and that many records
+unfoldable pub parse : List ℕ → Outcome (List Row)
+parse s = counted (stepAt s) (length s) start (headAt s)
+
+-- the list that a table decodes to, or its refusal: 2, then those along the stream
 unfoldable pub decode : List ℕ → Outcome (List Row)
-decode s = counted (stepAt s) (length s) start (headAt s)
+decode s = limited inputLimit (length s) (parse s)
 
 -- ---- writing
 
@@ -76,8 +83,8 @@ unfoldable pub entryBytes : Row → Row → List ℕ
 entryBytes prev x = shortSigned (wrapped 64 (pos (x .offset) -ℤ pos (prev .offset))) ++ shortSigned (wrapped 64 (x .addend -ℤ prev .addend))
 
 -- every record has bytes
-abbrev pub bytesOf : Row → Row → Put
-bytesOf prev x = bytes (entryBytes prev x)
+abbrev pub putOf : Row → Row → Put
+putOf prev x = bytes (entryBytes prev x)
 
 -- the record behind which the next one stands
 abbrev pub behind : Row → Row → Row
@@ -87,6 +94,10 @@ behind prev x = x
 unfoldable pub headOf : ℕ → List ℕ
 headOf n = identifier ++ shortSigned (pos n)
 
--- the table of a list
+-- the table of a list, however long it is
+unfoldable pub build : List Row → Outcome (List ℕ)
+build l = after (headOf (length l)) (puts putOf behind 0 start l)
+
+-- the bytes of the table that is written for a list, or refusal 2
 unfoldable pub encode : List Row → Outcome (List ℕ)
-encode l = after (headOf (length l)) (puts bytesOf behind 0 start l)
+encode l = limited listLimit (length l) (build l)

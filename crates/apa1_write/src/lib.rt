@@ -2,13 +2,15 @@
 ghost use mathlib.Core.Path.{_≡_};
 ghost use Prim.Native.Nat.{_+_, _^_, _≤_, _<_};
 ghost use lib.ListN.{length};
-ghost use Rattle.leb128.specs.Number.{Written};
 ghost use Rattle.records.specs.Writing.{puts, Puts};
-ghost use Rattle.apa1_table.specs.Table.{row, start, rows, entryBytes, bytesOf, behind, headOf, encode};
-ghost use Rattle.apa1_table.specs.Contract.{Listed};
-ghost use Rattle.apa1_table.specs.Inner.{Takes, Puttable};
+ghost use Rattle.apa1_table.specs.Table.{row, start, rows, entryBytes, putOf, behind, headOf, encode};
+ghost use Rattle.apa1_table.specs.Inner.{Listed, Measures, Puttable};
+ghost use Rattle.answer.specs.Written.{Written};
+use answer::Found;
+use answer::LIST_LIMIT;
+use answer::Refusal;
 
-// The bytes of a record, after one with this offset and this addend.
+// How many bytes a record takes, after one with this offset and this addend.
 fn entry_len(offset: u64, addend: i64, before: u64, base: i64) -> usize
     ensures { λ r. ⌜ r ≡ length (entryBytes (row before base) (row offset addend)) ⌝ }
 {
@@ -16,6 +18,7 @@ fn entry_len(offset: u64, addend: i64, before: u64, base: i64) -> usize
         + leb128::signed_len(wrap::sub_signed(64, addend, base))
 }
 
+// Its bytes, at a place.
 fn put_entry(table: &mut [u8], at: usize, offset: u64, addend: i64, before: u64, base: i64) -> usize
     requires { ⌜ at + length (entryBytes (row before base) (row offset addend)) ≤ length (now table) ⌝ }
     ensures { λ r. ⌜ Written (now (table .entry)) (now (table .exit)) at r (entryBytes (row before base) (row offset addend)) ⌝ }
@@ -26,7 +29,7 @@ fn put_entry(table: &mut [u8], at: usize, offset: u64, addend: i64, before: u64,
     leb128::write_signed(&mut *table, next, change)
 }
 
-// The identifier and the count.
+// How many bytes the identifier and the count take.
 fn head_len(n: usize) -> usize
     requires { ⌜ n < 2 ^ 63 ⌝ }
     ensures { λ r. ⌜ r ≡ length (headOf n) ⌝ }
@@ -34,6 +37,7 @@ fn head_len(n: usize) -> usize
     4 + leb128::signed_len(n as i64)
 }
 
+// Their bytes, at the front.
 fn put_head(table: &mut [u8], n: usize) -> usize
     requires { ⌜ (n < 2 ^ 63) × (0 + length (headOf n) ≤ length (now table)) ⌝ }
     ensures { λ r. ⌜ Written (now (table .entry)) (now (table .exit)) 0 r (headOf n) ⌝ }
@@ -42,10 +46,10 @@ fn put_head(table: &mut [u8], n: usize) -> usize
     leb128::write_signed(&mut *table, at, n as i64)
 }
 
-// The bytes of a whole table.
-pub fn size(offsets: &[u64], addends: &[i64]) -> u64
+// The first pass over a list within its limit. It refuses none.
+fn size(offsets: &[u64], addends: &[i64]) -> Found
     requires { ⌜ Listed (now offsets) (now addends) ⌝ }
-    ensures { λ r. ⌜ Takes (now (offsets .entry)) (now (addends .entry)) r ⌝ }
+    ensures { λ r. ⌜ Measures (now (offsets .entry)) (now (addends .entry)) r ⌝ }
 {
     let n = offsets.len();
     let mut total = head_len(n);
@@ -60,13 +64,24 @@ pub fn size(offsets: &[u64], addends: &[i64]) -> u64
         base = addend;
         i += 1;
     }
-    total as u64
+    Found::Count(total as u64)
+}
+
+// How many bytes a table takes, or the refusal: first that of a list over its limit.
+pub fn measure(offsets: &[u64], addends: &[i64]) -> Found
+    requires { ⌜ length (now offsets) ≡ length (now addends) ⌝ }
+    ensures { λ r. ⌜ Measures (now (offsets .entry)) (now (addends .entry)) r ⌝ }
+{
+    if LIST_LIMIT < offsets.len() {
+        return Found::Refused(Refusal::Limit, 0);
+    }
+    size(offsets, addends)
 }
 
 // The records' bytes from a place on.
 fn put_all(offsets: &[u64], addends: &[i64], table: &mut [u8], first: usize)
-    requires { ⌜ Puttable (puts bytesOf behind 0 start (rows (now offsets) (now addends))) (now offsets) (now addends) (now table) first ⌝ }
-    ensures { λ _. ⌜ Puts (puts bytesOf behind 0 start (rows (now (offsets .entry)) (now (addends .entry)))) (now (table .entry)) (now (table .exit)) first ⌝ }
+    requires { ⌜ Puttable (puts putOf behind 0 start (rows (now offsets) (now addends))) (now offsets) (now addends) (now table) first ⌝ }
+    ensures { λ _. ⌜ Puts (puts putOf behind 0 start (rows (now (offsets .entry)) (now (addends .entry)))) (now (table .entry)) (now (table .exit)) first ⌝ }
 {
     let n = offsets.len();
     let mut at = first;

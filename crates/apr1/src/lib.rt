@@ -2,19 +2,13 @@
 ghost use Rattle.apr1_table.specs.Contract.{Reads, Writes};
 use answer::Answer;
 use answer::Found;
-use answer::INPUT_LIMIT;
-use answer::LIST_LIMIT;
-use answer::Refusal;
 use apr1_write::Sized;
 
 // The offsets of a table, into a column.
 pub fn read(table: &[u8], offsets: &mut [u64]) -> Answer
     ensures { λ r. ⌜ Reads (now (table .entry)) (now (offsets .entry)) r (now (offsets .exit)) ⌝ }
 {
-    if INPUT_LIMIT < table.len() {
-        return answer::refuse(Refusal::Limit, 0);
-    }
-    match apr1_read::scan(table) {
+    match apr1_read::check(table) {
         Found::Refused(why, place) => answer::refuse(why, place),
         Found::Count(count) => {
             if (offsets.len() as u64) < count {
@@ -30,13 +24,7 @@ pub fn read(table: &[u8], offsets: &mut [u64]) -> Answer
 pub fn write(offsets: &[u64], table: &mut [u8]) -> Answer
     ensures { λ r. ⌜ Writes (now (offsets .entry)) (now (table .entry)) r (now (table .exit)) ⌝ }
 {
-    if LIST_LIMIT < offsets.len() {
-        return answer::refuse(Refusal::Limit, 0);
-    }
-    if offsets.len() < 1 {
-        return answer::refuse(Refusal::Empty, 0);
-    }
-    match apr1_write::size(offsets) {
+    match apr1_write::measure(offsets) {
         Sized::Refused(why, place) => answer::refuse(why, place),
         Sized::Table(pairs, need) => {
             if (table.len() as u64) < need {

@@ -3,12 +3,14 @@ ghost use mathlib.Core.Path.{_≡_};
 ghost use Prim.Native.Nat.{_+_, _≤_};
 ghost use lib.ListN.{length};
 ghost use Rattle.answer.specs.Outcome.{foundOf, inputLimit};
+ghost use Rattle.answer.specs.Written.{Written};
 ghost use Rattle.records.specs.Identifier.{startsWith};
 ghost use Rattle.records.specs.Reading.{records};
-ghost use Rattle.apr1_table.specs.Table.{identifier, last, run, stepAt, decode};
-ghost use Rattle.apr1_read.specs.Inner.{entryStep, entryWithout, headAt, headWithout, unheaded, body, Within, Headed, Walkable, Runnable, Ran, Started, Fillable, Filled};
+ghost use Rattle.apr1_table.specs.Table.{identifier, last, run, stepAt, parse, decode};
+ghost use Rattle.apr1_read.specs.Inner.{entryStep, headAt, body, Placed, Headed, Walkable, Runnable, Started, Fillable, Filled};
 use answer::Found;
 use answer::Refusal;
+use apr1_table::LAST;
 use leb128::Unsigned;
 
 // A pair: C and D, the offset behind it, and the place past it.
@@ -23,46 +25,28 @@ pub enum Head {
     Refused(Refusal, usize),
 }
 
-const LAST: u64 = 4294967292;
-
-// The refusal of a number, as its pair's.
-fn without(number: Unsigned) -> Entry
-    ensures { λ r. ⌜ r ≡ entryWithout number ⌝ }
-{
-    match number {
-        Unsigned::Refused(why, place) => Entry::Refused(why, place),
-        Unsigned::Value(_, next) => Entry::Refused(Refusal::Width, next),
-    }
-}
-
 // The pair at a place, behind an offset.
 fn entry_at(s: &[u8], at: usize, x: u64) -> Entry
     requires { ⌜ x ≤ last ⌝ }
-    ensures { λ r. ⌜ (entryStep r ≡ stepAt (now (s .entry)) at x) × Within (now (s .entry)) at x r ⌝ }
+    ensures { λ r. ⌜ (entryStep r ≡ stepAt (now (s .entry)) at x) × Placed (now (s .entry)) at x r ⌝ }
 {
     let first = leb128::read_unsigned(s, at, 32);
     let Unsigned::Value(c, next) = first else {
-        return without(first);
+        let cause = first.cause();
+        let why = cause.why;
+        return Entry::Refused(why, cause.place);
     };
     let second = leb128::read_unsigned(s, next, 32);
     let Unsigned::Value(d, past) = second else {
-        return without(second);
+        let cause = second.cause();
+        let why = cause.why;
+        return Entry::Refused(why, cause.place);
     };
     let reach = x + c * d;
     if LAST < reach {
         return Entry::Refused(Refusal::Space, at);
     }
     Entry::Pair(c, d, reach, past)
-}
-
-// The refusal of a number, as the head's.
-fn headless(number: Unsigned) -> Head
-    ensures { λ r. ⌜ r ≡ headWithout number ⌝ }
-{
-    match number {
-        Unsigned::Refused(why, place) => Head::Refused(why, place),
-        Unsigned::Value(_, next) => Head::Refused(Refusal::Width, next),
-    }
 }
 
 // Whether a table has APR1's identifier.
@@ -81,11 +65,15 @@ fn head_of(s: &[u8]) -> Head
     }
     let count = leb128::read_unsigned(s, 4, 32);
     let Unsigned::Value(n, next) = count else {
-        return headless(count);
+        let cause = count.cause();
+        let why = cause.why;
+        return Head::Refused(why, cause.place);
     };
     let offset = leb128::read_unsigned(s, next, 32);
     let Unsigned::Value(a, first) = offset else {
-        return headless(offset);
+        let cause = offset.cause();
+        let why = cause.why;
+        return Head::Refused(why, cause.place);
     };
     if LAST < a {
         return Head::Refused(Refusal::Space, next);
@@ -121,32 +109,31 @@ fn walk(s: &[u8], n: u64, a: u64, first: usize) -> Found
     Found::Count(count)
 }
 
-// The refusal of a head, as what a first pass finds.
-fn not_headed(head: Head) -> Found
-    ensures { λ r. ⌜ r ≡ unheaded head ⌝ }
+// How many offsets a table within the limit has, or the refusal.
+fn scan(s: &[u8]) -> Found
+    requires { ⌜ length (now s) ≤ inputLimit ⌝ }
+    ensures { λ r. ⌜ r ≡ foundOf (parse (now (s .entry))) ⌝ }
 {
-    match head {
+    match head_of(s) {
         Head::Refused(why, place) => Found::Refused(why, place as u64),
-        Head::Table(n, _, _) => Found::Count(n),
+        Head::Table(n, a, first) => walk(s, n, a, first),
     }
 }
 
-// How many offsets a table has, or the refusal.
-pub fn scan(s: &[u8]) -> Found
-    requires { ⌜ length (now s) ≤ inputLimit ⌝ }
+// How many offsets any bytes have, or the refusal.
+pub fn check(s: &[u8]) -> Found
     ensures { λ r. ⌜ r ≡ foundOf (decode (now (s .entry))) ⌝ }
 {
-    let head = head_of(s);
-    let Head::Table(n, a, first) = head else {
-        return not_headed(head);
-    };
-    walk(s, n, a, first)
+    if answer::INPUT_LIMIT < s.len() {
+        return Found::Refused(Refusal::Limit, 0);
+    }
+    scan(s)
 }
 
 // Puts the offsets of a pair behind x into a column, and returns the index after them.
 fn fill_run(column: &mut [u64], from: usize, x: u64, c: u64, d: u64) -> usize
     requires { ⌜ Runnable (now column) from x c d ⌝ }
-    ensures { λ r. ⌜ Ran (now (column .entry)) from (run x c d) r (now (column .exit)) ⌝ }
+    ensures { λ r. ⌜ Written (now (column .entry)) (now (column .exit)) from r (run x c d) ⌝ }
 {
     let mut i = from;
     let mut y = x;
@@ -195,9 +182,9 @@ fn store(s: &[u8], n: u64, a: u64, first: usize, column: &mut [u64])
     store_pairs(s, n, a, first, &mut *column);
 }
 
-// The offsets of a table that `scan` accepted, in a column with room for them.
+// The offsets of a table that `check` accepted, in a column with room for them.
 pub fn fill(s: &[u8], column: &mut [u64])
-    requires { ⌜ Fillable (decode (now s)) (now column) × (length (now s) ≤ inputLimit) ⌝ }
+    requires { ⌜ Fillable (decode (now s)) (now column) ⌝ }
     ensures { λ _. ⌜ Filled (decode (now (s .entry))) (now (column .entry)) (now (column .exit)) ⌝ }
 {
     let head = head_of(s);

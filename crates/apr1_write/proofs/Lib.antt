@@ -1,1 +1,2 @@
-pub mod WriteNeeds
+pub mod EntryNeeds
+pub mod PassNeeds

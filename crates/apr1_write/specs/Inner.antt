@@ -6,10 +6,10 @@ use mathlib.Core.List.{List}
 use lib.ListN.{length}
 use lib.Seq.{sets}
 use Rattle.answer.specs.Outcome.{refused, listLimit}
-use Rattle.apr1_table.specs.Table.{last, pairBytes, encode}
+use Rattle.apr1_table.specs.Table.{last, pairBytes, build, Rising, Writable, encode}
 use Rattle.apr1_write.specs.declared.Sized.{Sized}
 use Rattle.apr1_write.specs.declared.Sized.the-variants as sized
-use Rattle.apr1_table.specs.Inner.{Rising, pairsIn, tableIn}
+use Rattle.apr1_table.specs.Inner.{pairsIn, tableIn}
 
 -- a run may be counted: its first offset and its gap are inside the space
 pub record Countable (l : List ℕ) (i y d : ℕ) : Type 0 where
@@ -22,27 +22,28 @@ pub record Sizable (l : List ℕ) : Type 0 where
   pub some : 0 < length l
   pub few : length l ≤ listLimit
 
--- what the first pass finds
+-- what the first pass finds in such a list
+abbrev pub SizesIn : List ℕ → Sized → Type 0
+SizesIn l (sized.Table n b) = (n ≡ length (pairsIn l)) × (b ≡ length (tableIn l)) × Rising 0 l
+SizesIn l (sized.Refused why p) = build l ≡ refused why p
+
+-- what is found in any list: the number of its pairs and the bytes of its table, or its refusal
 abbrev pub Sizes : List ℕ → Sized → Type 0
-Sizes l (sized.Table n b) = (n ≡ length (pairsIn l)) × (b ≡ length (tableIn l)) × Rising 0 l
+Sizes l (sized.Table n b) = (n ≡ length (pairsIn l)) × (b ≡ length (tableIn l)) × Writable l
 Sizes l (sized.Refused why p) = encode l ≡ refused why p
 
--- a list that rises, and room for its pairs at a place
+-- a list that can be written, and room for its pairs at a place
 pub record Puttable (l table : List ℕ) (at : ℕ) : Type 0 where
-  pub some : 0 < length l
-  pub few : length l ≤ listLimit
-  pub rising : Rising 0 l
+  pub writable : Writable l
   pub room : at + length (pairBytes (pairsIn l)) ≤ length table
 
 -- the pairs' bytes stand at a place
 abbrev pub PairsPut : List ℕ → List ℕ → List ℕ → ℕ → Type 0
 PairsPut l old new at = new ≡ sets old at (pairBytes (pairsIn l))
 
--- a list that rises, the number of its pairs, and room for its table
+-- a list that can be written, the number of its pairs, and room for its table
 pub record Encodable (l table : List ℕ) (n : ℕ) : Type 0 where
-  pub some : 0 < length l
-  pub few : length l ≤ listLimit
-  pub rising : Rising 0 l
+  pub writable : Writable l
   pub pairs : n ≡ length (pairsIn l)
   pub room : length (tableIn l) ≤ length table
 

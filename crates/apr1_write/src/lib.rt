@@ -2,19 +2,18 @@
 ghost use mathlib.Core.Path.{_≡_};
 ghost use Prim.Native.Nat.{_+_, _≤_, _<_};
 ghost use lib.ListN.{length};
-ghost use Rattle.leb128.specs.Number.{Written};
 ghost use Rattle.apr1_table.specs.Table.{pair, onePair, headOf};
 ghost use Rattle.apr1_table.specs.Inner.{Run};
-ghost use Rattle.apr1_write.specs.Inner.{Countable, Sizable, Sizes, Puttable, PairsPut, Encodable, TablePut};
+ghost use Rattle.apr1_write.specs.Inner.{Countable, Sizable, SizesIn, Sizes, Puttable, PairsPut, Encodable, TablePut};
+ghost use Rattle.answer.specs.Written.{Written};
 use answer::Refusal;
+use apr1_table::LAST;
 
 // The pairs and the bytes of a table, or the first bad offset.
 pub enum Sized {
     Table(u64, u64),
     Refused(Refusal, u64),
 }
-
-const LAST: u64 = 4294967292;
 
 // How many offsets from an index on follow y, each d above the one before.
 fn run_from(offsets: &[u64], from: usize, y: u64, d: u64) -> usize
@@ -71,10 +70,10 @@ fn put_head(table: &mut [u8], n: u64, a: u64) -> usize
     put_pair(&mut *table, at, n, a)
 }
 
-// The first pass.
-pub fn size(offsets: &[u64]) -> Sized
+// The first pass, over a list that is neither empty nor too long.
+fn size(offsets: &[u64]) -> Sized
     requires { ⌜ Sizable (now offsets) ⌝ }
-    ensures { λ r. ⌜ Sizes (now (offsets .entry)) r ⌝ }
+    ensures { λ r. ⌜ SizesIn (now (offsets .entry)) r ⌝ }
 {
     let a = offsets[0];
     if LAST < a {
@@ -100,6 +99,19 @@ pub fn size(offsets: &[u64]) -> Sized
         i = i + 1 + k;
     }
     Sized::Table(pairs, (head_len(pairs, a) + bytes) as u64)
+}
+
+// The pairs and the bytes of any list's table, or the refusal.
+pub fn measure(offsets: &[u64]) -> Sized
+    ensures { λ r. ⌜ Sizes (now (offsets .entry)) r ⌝ }
+{
+    if answer::LIST_LIMIT < offsets.len() {
+        return Sized::Refused(Refusal::Limit, 0);
+    }
+    if offsets.len() < 1 {
+        return Sized::Refused(Refusal::Empty, 0);
+    }
+    size(offsets)
 }
 
 // The pairs' bytes from a place on.

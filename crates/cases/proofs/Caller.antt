@@ -10,10 +10,11 @@ use mir.Syntax.{w32, w64}
 use mir.Val.{Fits, toZ, ofZ}
 use borrow.Author.Needs.{needs}
 use Rattle.answer.specs.declared.Refusal.{Refusal}
-use Rattle.leb128.specs.Number.{readUnsigned, shortUnsigned, shortSigned, Written}
+use Rattle.answer.specs.Written.{Written, written-then}
+use Rattle.leb128.specs.Number.{readUnsigned, shortUnsigned, shortSigned}
 use Rattle.leb128.specs.declared.Unsigned.{Unsigned}
 use Rattle.leb128.specs.declared.Unsigned.the-variants.{Value as UValue, Refused as URefused}
-use Rattle.leb128.proofs.Laws.{unsigned-value, written-then}
+use Rattle.leb128.proofs.Laws.{unsigned-value}
 use Rattle.cases.specs.U32.{wordOf, readU32}
 use Rattle.cases.specs.declared.leb.Word.the-variants.{Value, Refused}
 

@@ -11,7 +11,7 @@ use Rattle.word.specs.declared.Named.the-variants.{Is}
 use Rattle.word.specs.Class.{bytesOf}
 use Rattle.word.specs.Word.{valueOf, bytesIn, wordAt, withWord, firstWords, wordsOf, bytesOfWords}
 use Rattle.relr_table.specs.Words as relr
-use Rattle.relr_table.specs.Table.{decode, checked, encode, leading, within, targets, added, patched}
+use Rattle.relr_table.specs.Table.{parse, decode, checked, build, encode, leading, contained, targets, added, patched}
 use Rattle.relr_table.specs.Contract.{changed, imageAfter}
 use Rattle.leb128.specs.Number.{raw, readUnsigned, signed, readSigned, short, shortBy, shortUnsigned, shortSigned}
 use Rattle.leb128.specs.declared.Unsigned.the-variants.{Value as UValue}
@@ -82,12 +82,12 @@ pub claim : Each table
 unfolding Each Holds table readUnsigned readSigned raw signed short shortBy before after
     valueOf bytesIn wordAt withWord firstWords wordsOf bytesOfWords
     relr.marked relr.fit relr.anchored relr.read relr.falls relr.bit relr.word relr.first relr.write relr.table
-    decode checked encode leading within targets added patched changed imageAfter
+    parse decode checked build encode leading contained targets added patched changed imageAfter
     startsWith stepThen records counted putThen puts residue signedIn same
-    apr1.run apr1.expand apr1.secondOf apr1.firstOf apr1.stepAt apr1.joined apr1.withFirst apr1.withCount apr1.decode apr1.pairThen
-    apr1.pairsFrom apr1.onePair apr1.pairBytes apr1.headOf apr1.tableOf apr1.checked apr1.encode
-    apa1.secondOf apa1.firstOf apa1.stepAt apa1.countOf apa1.headAt apa1.decode apa1.entryBytes apa1.headOf apa1.encode
-    relleb.addendOf relleb.symbolOf relleb.typeOf relleb.offsetOf relleb.stepAt relleb.decode relleb.fieldOf relleb.symbolBytes
-    relleb.typeBytes relleb.fieldBytes relleb.entryBytes relleb.putOf relleb.encode
+    apr1.run apr1.expand apr1.secondOf apr1.firstOf apr1.stepAt apr1.joined apr1.withFirst apr1.withCount apr1.parse apr1.decode apr1.pairThen
+    apr1.pairsFrom apr1.onePair apr1.pairBytes apr1.headOf apr1.tableOf apr1.checked apr1.build apr1.encode
+    apa1.secondOf apa1.firstOf apa1.stepAt apa1.countOf apa1.headAt apa1.parse apa1.decode apa1.entryBytes apa1.headOf apa1.build apa1.encode
+    relleb.withAddend relleb.withSymbol relleb.withType relleb.withOffset relleb.stepAt relleb.parse relleb.decode relleb.fieldOf relleb.symbolBytes
+    relleb.typeBytes relleb.fieldBytes relleb.entryBytes relleb.putOf relleb.build relleb.encode
 claim =
     ((refl, refl), ((refl, refl), ((refl, refl), ((refl, refl), ((refl, refl), ((refl, refl), ((refl, refl), ((refl, refl), (refl, ((refl, refl), ((refl, refl), ((refl, refl), tt))))))))))))

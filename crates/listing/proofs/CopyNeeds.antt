@@ -9,7 +9,7 @@ use lib.ListN.{length, take, drop, getD, set}
 use lib.Seq.{take-suc, length-take-le}
 use borrow.Author.Needs.{needs}
 use Rattle.answer.specs.declared.Answer.{Answer}
-use Rattle.answer.specs.Outcome.{accepted, success, noRoom}
+use Rattle.answer.specs.Outcome.{accepted, success, noRoom, itself}
 use Rattle.answer.specs.Outcome.Laws.{Counted, answer-fits, answer-long, filled-self, filled-long, buffer-more, buffer-long}
 use Rattle.listing.specs.Text.{textOf, textRoom}
 use Rattle.listing.specs.Contract.{Lists}
@@ -28,7 +28,7 @@ whole page count h = record { list = take count page; is = refl; long = length-t
 
 pub copy-long : (page old : List ℕ) (count : ℕ) {r : Answer} → count ≤ length page → length old < count → r ≡ noRoom count → Copies (take count page) old r old
 copy-long page old count h k e =
-    record { answer = e ∙ sym (answer-long (length old) (whole page count h) k); text = sym (filled-long (λ (b : ℕ). b) old (whole page count h) k) }
+    record { answer = e ∙ sym (answer-long (length old) (whole page count h) k); text = sym (filled-long itself old (whole page count h) k) }
 
 module _ {page old now : List ℕ} {count i : ℕ} (c : Copying page old now count i) (h : count ≤ length page) (room : count ≤ length old) where
   part : length (take i page) ≡ i

@@ -2,12 +2,11 @@
 -- Assumes nothing.
 use Prim.Native.Nat.{ℕ}
 use mathlib.Core.Path.{_≡_, refl, ap, sym, _∙_}
-use mathlib.Core.Bool.{Bool, true, false}
+use mathlib.Core.Bool.{Bool, true, false, cond}
 use mathlib.Core.List.{List, [], _∷_, _++_}
 use native.Mathlib.Omega.{arith}
 use lib.Dec.{eqb}
 use borrow.Author.Tests.{eqb-true}
-use Rattle.answer.specs.Outcome.{pick}
 use Rattle.records.specs.Identifier.{startsWith}
 use Rattle.listing.specs.declared.kind.Kind.{Kind}
 use Rattle.listing.specs.declared.kind.Kind.the-variants.{Relr32, Relr64, Apr1, Apa1, Relleb32, Relleb64}
@@ -26,7 +25,7 @@ starts-both : (c b : ℕ) (l s : List ℕ) → startsWith (b ∷ l) (c ∷ s) �
 unfolding startsWith
 starts-both c b l s = go (eqb c b) refl
   where
-    go : (t : Bool) → eqb c b ≡ t → pick t (startsWith l s) false ≡ true → (c ≡ b) × (startsWith l s ≡ true)
+    go : (t : Bool) → eqb c b ≡ t → cond t (startsWith l s) false ≡ true → (c ≡ b) × (startsWith l s ≡ true)
     go true h e = (eqb-true c b h, e)
     go false h e = let z : _≡_ {A = ℕ} 0 1 = cc in absurd (omega arith)
 

@@ -8,7 +8,7 @@ use native.Mathlib.Omega.{arith}
 use lib.ListN.{length, take, drop, length-append, length-drop}
 use lib.Seq.{take-all, take-append-seam, length-take-le}
 use Rattle.answer.specs.declared.Answer.{Answer}
-use Rattle.answer.specs.Outcome.{success}
+use Rattle.answer.specs.Outcome.{success, itself}
 use Rattle.answer.specs.Outcome.Laws.{answer-fits, filled-self, filled-long}
 use Rattle.records.specs.Identifier.{startsWith}
 use Rattle.listing.specs.declared.kind.Kind.{Kind}
@@ -23,7 +23,7 @@ use Rattle.listing.specs.Contract.{Lists}
 pub lists-same : {input old new : List ℕ} {r : Answer} → Lists input old r new → length new ≡ length old
 lists-same {input} {old} {new} l =
     elim (decLt (length old) (length (textOf input))) [
-      | yes h ↦ ap length (l .text ∙ filled-long (λ (b : ℕ). b) old (record { list = textOf input; is = refl; long = refl }) h)
+      | yes h ↦ ap length (l .text ∙ filled-long itself old (record { list = textOf input; is = refl; long = refl }) h)
       | no h ↦ ap length (l .text ∙ filled-self old refl (omega arith)) ∙ simp (length-append, length-drop) (omega arith)
     ]
 

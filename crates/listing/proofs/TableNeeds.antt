@@ -2,7 +2,7 @@
 -- Assumes nothing.
 use Prim.Native.Nat.{ℕ, _+_, _-_, _*_, _≤_, _<_}
 use mathlib.Core.Path.{_≡_, refl, ap, sym, _∙_}
-use mathlib.Core.Bool.{Bool, true, false}
+use mathlib.Core.Bool.{Bool, true, false, cond}
 use mathlib.Core.List.{List, [], _∷_, _++_, map}
 use native.Mathlib.Decide.{decLt}
 use native.Mathlib.Omega.{arith}
@@ -11,7 +11,7 @@ use lib.ListN.{length, take, drop, getD, length-drop, length-map, List·getD-app
 use lib.Seq.{take-all, take-append-seam, sets-eq, length-sets}
 use borrow.Author.Needs.{needs}
 use Rattle.answer.specs.declared.Answer.{Answer}
-use Rattle.answer.specs.Outcome.{Outcome, accepted, pick, success, answerIn, filled}
+use Rattle.answer.specs.Outcome.{Outcome, accepted, success, answerIn, filled, itself}
 use Rattle.answer.specs.Outcome.Laws.{filled-fits, answer-zero, Succeeded}
 use Rattle.records.specs.Identifier.{startsWith}
 use Rattle.records.specs.Identifier.Laws.{starts-short}
@@ -50,7 +50,7 @@ column-at {B = B} f d old l e g h i k =
 -- ---- a kind with offsets alone
 module _ (k : Kind) (s os ts ys : List ℕ) (us : List ℤ) {r : Answer} {os′ : List ℕ} (o : Outcome (List ℕ)) where
   offsets-read : rowsOf k s ≡ mapped offsetRow o → hasType k ≡ false → hasAddend k ≡ false → length os ≡ recordLimit
-      → r ≡ answerIn (length os) o → os′ ≡ filled (λ (x : ℕ). x) o os → Reads k s r os′ ts ys us
+      → r ≡ answerIn (length os) o → os′ ≡ filled itself o os → Reads k s r os′ ts ys us
   offsets-read e t a m q c =
       record {
         answer = q ∙ ap (λ (n : ℕ). answerIn n o) m ∙ sym (answer-mapped offsetRow recordLimit o) ∙ ap (answerIn recordLimit) (sym e);
@@ -59,28 +59,28 @@ module _ (k : Kind) (s os ts ys : List ℕ) (us : List ℤ) {r : Answer} {os′ 
             let n : length l ≡ length (v .list) = ap length (v .made) ∙ length-map (v .list) offsetRow in
             let p : getD l i none ≡ offsetRow (getD (v .list) i 0) = ap (λ (w : List Row). getD w i none) (v .made) ∙ List·getD-map offsetRow (v .list) i 0 in
             offset-line k i (rowAt os′ ts ys us i) (getD l i none) t a
-            (column-at (λ (x : ℕ). x) 0 os (v .list) c (v .is) (omega arith) i (omega arith) ∙ sym (ap (λ (x : Row). x .offset) p));
+            (column-at itself 0 os (v .list) c (v .is) (omega arith) i (omega arith) ∙ sym (ap (λ (x : Row). x .offset) p));
       }
 
 module _ (s os ts ys : List ℕ) (us : List ℤ) {k : Kind} {r : Answer} {os′ : List ℕ} (f : Readable s os ts ys us) where
   pub relr-four : k ≡ Relr32 → relr.Reads 4 s os r os′ → Reads k s r os′ ts ys us
   unfolding rowsOf
-  relr-four e c = rw e (offsets-read Relr32 s os ts ys us (relr.decoding 4 s) refl refl refl (f .offsets) (c .answer) (c .column))
+  relr-four e c = rw e (offsets-read Relr32 s os ts ys us (relr.decoding 4 s) refl refl refl (f .offsets) (c .answer) (c .held))
 
   pub relr-eight : k ≡ Relr64 → relr.Reads 8 s os r os′ → Reads k s r os′ ts ys us
   unfolding rowsOf
-  relr-eight e c = rw e (offsets-read Relr64 s os ts ys us (relr.decoding 8 s) refl refl refl (f .offsets) (c .answer) (c .column))
+  relr-eight e c = rw e (offsets-read Relr64 s os ts ys us (relr.decoding 8 s) refl refl refl (f .offsets) (c .answer) (c .held))
 
   pub apr1-read : k ≡ Apr1 → apr1.Reads s os r os′ → Reads k s r os′ ts ys us
   unfolding rowsOf
-  apr1-read e c = rw e (offsets-read Apr1 s os ts ys us (apr1.decoding s) refl refl refl (f .offsets) (c .answer) (c .column))
+  apr1-read e c = rw e (offsets-read Apr1 s os ts ys us (apr1.decoding s) refl refl refl (f .offsets) (c .answer) (c .held))
 
 -- ---- offsets with addends
 module _ (s os ts ys : List ℕ) (us : List ℤ) {k : Kind} {r : Answer} {os′ : List ℕ} {us′ : List ℤ} (f : Readable s os ts ys us) where
   pub apa1-read : k ≡ Apa1 → apa1-contract.Reads s os us r os′ us′ → Reads k s r os′ ts ys us′
   unfolding rowsOf
   apa1-read e c =
-      let o = apa1-laws.read-plain s (length os) (length us) (omega (arith, f .offsets, f .addends)) (omega (arith, f .table)) in
+      let o = apa1-laws.read-plain s (length os) (length us) (omega (arith, f .offsets, f .addends)) in
       rw e
       (record {
         answer = c .answer ∙ ap (answerIn (length os)) o ∙ ap (λ (n : ℕ). answerIn n (apa1.decode s)) (f .offsets) ∙ sym (answer-mapped pairRow recordLimit (apa1.decode s));
@@ -100,15 +100,15 @@ module _ (s os ts ys : List ℕ) (us : List ℤ) {k : Kind} {r : Answer} {os′ 
   whole-read size c e w d =
       let same : relleb-contract.Same os ts ys us =
       record { types = omega (arith, f .offsets, f .types); symbols = omega (arith, f .offsets, f .symbols); addends = omega (arith, f .offsets, f .addends) } in
-      let o : relleb-contract.readOutcome size s os ts ys us ≡ rowsOf k s =
-      relleb-laws.read-plain s (length os) (length ts) (length ys) (length us) e (relleb-laws.same-even os ts ys us same) (omega (arith, f .table)) ∙ sym w in
+      let o : relleb-contract.decoding size s (length os) (length ts) (length ys) (length us) ≡ rowsOf k s =
+      relleb-laws.read-plain size s (length os) (length ts) (length ys) (length us) refl e (relleb-laws.same-even os ts ys us same) ∙ sym w in
       record {
         answer = d .answer ∙ ap (answerIn (length os)) o ∙ ap (λ (n : ℕ). answerIn n (rowsOf k s)) (f .offsets);
         lines = λ l g h i j.
-            let a = column-at relleb-contract.offsetIn none os l (d .columns .offsets) (o ∙ g) (omega (arith, f .offsets)) i j in
-            let b = column-at relleb-contract.typeIn none ts l (d .columns .types) (o ∙ g) (omega (arith, f .types)) i j in
-            let y = column-at relleb-contract.symbolIn none ys l (d .columns .symbols) (o ∙ g) (omega (arith, f .symbols)) i j in
-            let z = column-at relleb-contract.addendIn none us l (d .columns .addends) (o ∙ g) (omega (arith, f .addends)) i j in
+            let a = column-at relleb-contract.offsetOf none os l (d .columns .offsets) (o ∙ g) (omega (arith, f .offsets)) i j in
+            let b = column-at relleb-contract.typeOf none ts l (d .columns .types) (o ∙ g) (omega (arith, f .types)) i j in
+            let y = column-at relleb-contract.symbolOf none ys l (d .columns .symbols) (o ∙ g) (omega (arith, f .symbols)) i j in
+            let z = column-at relleb-contract.addendOf none us l (d .columns .addends) (o ∙ g) (omega (arith, f .addends)) i j in
             ap (rowText k i)
             (ap (λ (x : ℕ). row x (getD ts′ i 0) (getD ys′ i 0) (getD us′ i (pos 0))) a
             ∙ ap (λ (x : ℕ). row (getD l i none .offset) x (getD ys′ i 0) (getD us′ i (pos 0))) b
@@ -187,7 +187,7 @@ shown {old} {page} {t} {count} p room =
 tried-starts : (s : List ℕ) (j : Kind) (rest : Line) (k : Kind) → tried j s rest ≡ Names k → (rest ≡ Names k → startsWith (lineOf k) s ≡ true) → startsWith (lineOf k) s ≡ true
 tried-starts s j rest k e g = go (startsWith (lineOf j) s) refl e
   where
-    go : (t : Bool) → startsWith (lineOf j) s ≡ t → pick t (Names j) rest ≡ Names k → startsWith (lineOf k) s ≡ true
+    go : (t : Bool) → startsWith (lineOf j) s ≡ t → cond t (Names j) rest ≡ Names k → startsWith (lineOf k) s ≡ true
     go true h e = let f : j ≡ k = cc in rw (← f) h
     go false h e = g e
 

@@ -7,7 +7,7 @@ use lib.IntN.{ℤ, pos}
 use lib.ListN.{length, take, getD}
 use lib.Seq.{sets}
 use Rattle.answer.specs.declared.Answer.{Answer}
-use Rattle.answer.specs.Outcome.{accepted, answerIn, filled}
+use Rattle.answer.specs.Outcome.{accepted, answerIn, filled, itself}
 use Rattle.relleb_table.specs.Table.{Row, row}
 use Rattle.listing.specs.declared.kind.Kind.{Kind}
 use Rattle.listing.specs.Text.{decimal, rowsOf, rowText, rowAt, recordLimit, tableLimit}
@@ -39,7 +39,7 @@ pub record Room (paper : List ℕ) (at count : ℕ) (os ts ys : List ℕ) (us : 
 -- bytes are handed out: the call answers r, and leaves `new` in a buffer that held `old`
 pub record Copies (bytes old : List ℕ) (r : Answer) (new : List ℕ) : Type 0 where
   pub answer : r ≡ answerIn (length old) (accepted bytes)
-  pub text : new ≡ filled (λ (b : ℕ). b) (accepted bytes) old
+  pub text : new ≡ filled itself (accepted bytes) old
 
 -- a table within its limit, and columns for the most records
 pub record Readable (s os ts ys : List ℕ) (us : List ℤ) : Type 0 where

@@ -7,7 +7,7 @@ use lib.Dec.{ltb, leb}
 use lib.IntN.{ℤ, pos, negsuc}
 use lib.ListN.{length, drop, getD}
 use Rattle.answer.specs.declared.Refusal.the-variants.{Class, Limit, Room}
-use Rattle.answer.specs.Outcome.{numberOf, Outcome, accepted, refused, pick}
+use Rattle.answer.specs.Outcome.{numberOf, Outcome, accepted, refused}
 use Rattle.records.specs.Identifier.{startsWith}
 use Rattle.relr_table.specs.Contract as relr
 use Rattle.apr1_table.specs.Contract as apr1
@@ -62,7 +62,7 @@ lineOf k = nameOf k ++ feed
 
 -- the kind whose line an input starts with, and otherwise what is said of the rest
 abbrev pub tried : Kind → List ℕ → Line → Line
-tried k s rest = pick (startsWith (lineOf k) s) (Names k) rest
+tried k s rest = cond (startsWith (lineOf k) s) (Names k) rest
 
 -- what the first line of an input says: the kind that it names, or that it names none or has no line feed
 unfoldable pub firstLine : List ℕ → Line
@@ -166,12 +166,12 @@ textRoom = 131072
 
 -- the text for what a table says
 unfoldable pub printed : Kind → Outcome (List Row) → List ℕ
-printed k (accepted l) = pick (leb (length l) recordLimit) (header ++ rowsFrom k 0 l) (refusalText (numberOf Room) 0)
+printed k (accepted l) = cond (leb (length l) recordLimit) (header ++ rowsFrom k 0 l) (refusalText (numberOf Room) 0)
 printed k (refused why p) = refusalText (numberOf why) p
 
 -- the text for a table
 unfoldable pub tableText : Kind → List ℕ → List ℕ
-tableText k t = pick (leb (length t) tableLimit) (printed k (rowsOf k t)) (refusalText (numberOf Limit) 0)
+tableText k t = cond (leb (length t) tableLimit) (printed k (rowsOf k t)) (refusalText (numberOf Limit) 0)
 
 -- the text for an input whose first line is known
 unfoldable pub textAfter : Line → List ℕ → List ℕ

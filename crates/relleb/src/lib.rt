@@ -3,8 +3,6 @@ ghost use mathlib.Core.Path.{_≡_};
 ghost use Rattle.relleb_table.specs.Contract.{even, Reads, Writes};
 use answer::Answer;
 use answer::Found;
-use answer::INPUT_LIMIT;
-use answer::LIST_LIMIT;
 use answer::Refusal;
 use word::Class;
 use word::Named;
@@ -40,11 +38,8 @@ pub fn read(
     if !same_length(offsets.len(), types.len(), symbols.len(), addends.len()) {
         return answer::refuse(Refusal::Columns, 0);
     }
-    if INPUT_LIMIT < table.len() {
-        return answer::refuse(Refusal::Limit, 0);
-    }
     let width = kind.bits();
-    match relleb_read::scan(table, width) {
+    match relleb_read::check(table, width) {
         Found::Refused(why, place) => answer::refuse(why, place),
         Found::Count(count) => {
             if (offsets.len() as u64) < count {
@@ -74,15 +69,8 @@ pub fn write(
     if !same_length(offsets.len(), types.len(), symbols.len(), addends.len()) {
         return answer::refuse(Refusal::Columns, 0);
     }
-    if LIST_LIMIT < offsets.len() {
-        return answer::refuse(Refusal::Limit, 0);
-    }
-    let found = match kind {
-        Class::Four => relleb_write::size(32, offsets, types, symbols, addends),
-        Class::Eight => relleb_write::size(64, offsets, types, symbols, addends),
-    };
     let width = kind.bits();
-    match found {
+    match relleb_write::measure(kind, offsets, types, symbols, addends) {
         Found::Refused(why, place) => answer::refuse(why, place),
         Found::Count(need) => {
             if (table.len() as u64) < need {

@@ -6,11 +6,12 @@ ghost use lib.Signed.{mag};
 ghost use Rattle.answer.specs.Outcome.{foundOf};
 ghost use Rattle.leb128.specs.Number.{IsWidth, readSigned};
 ghost use Rattle.records.specs.Reading.{records};
-ghost use Rattle.relleb_table.specs.Table.{state, start, addendOf, symbolOf, typeOf, stepAt, decode};
+ghost use Rattle.relleb_table.specs.Table.{state, start, withAddend, withSymbol, withType, stepAt, parse, decode};
 ghost use Rattle.relleb_table.specs.Contract.{Filled};
 ghost use Rattle.relleb_table.specs.Inner.{Fillable};
-ghost use Rattle.relleb_read.specs.Inner.{entryStep, entryWithout, entryWithoutOffset, signedWithout, Skips};
+ghost use Rattle.relleb_read.specs.Inner.{entryStep, Skips};
 use answer::Found;
+use answer::INPUT_LIMIT;
 use answer::Refusal;
 use leb128::Signed;
 use leb128::Unsigned;
@@ -19,25 +20,6 @@ use leb128::Unsigned;
 pub enum Entry {
     Record(u64, u32, u32, i64, usize),
     Refused(Refusal, usize),
-}
-
-// The refusal of a number, as its record's.
-fn without(number: Signed) -> Entry
-    ensures { λ r. ⌜ r ≡ entryWithout number ⌝ }
-{
-    match number {
-        Signed::Refused(why, place) => Entry::Refused(why, place),
-        Signed::Value(_, next) => Entry::Refused(Refusal::Width, next),
-    }
-}
-
-fn without_offset(number: Unsigned) -> Entry
-    ensures { λ r. ⌜ r ≡ entryWithoutOffset number ⌝ }
-{
-    match number {
-        Unsigned::Refused(why, place) => Entry::Refused(why, place),
-        Unsigned::Value(_, next) => Entry::Refused(Refusal::Width, next),
-    }
 }
 
 // The record whose addend's difference stands at a place.
@@ -51,11 +33,13 @@ fn with_addend(
     base: i64,
 ) -> Entry
     requires { ⌜ IsWidth width ⌝ }
-    ensures { λ r. ⌜ entryStep r ≡ addendOf width base offset kind symbol (readSigned width (now (s .entry)) at) ⌝ }
+    ensures { λ r. ⌜ entryStep r ≡ withAddend width base offset kind symbol (readSigned width (now (s .entry)) at) ⌝ }
 {
     let fourth = leb128::read_signed(s, at, width);
     let Signed::Value(change, past) = fourth else {
-        return without(fourth);
+        let cause = fourth.cause();
+        let why = cause.why;
+        return Entry::Refused(why, cause.place);
     };
     Entry::Record(
         offset,
@@ -80,11 +64,13 @@ fn symbol_in(field: i64) -> u32
 // The record whose symbol field stands at a place.
 fn with_symbol(s: &[u8], at: usize, width: u32, offset: u64, kind: u32, base: i64) -> Entry
     requires { ⌜ IsWidth width ⌝ }
-    ensures { λ r. ⌜ entryStep r ≡ symbolOf width (now (s .entry)) base offset kind (readSigned 33 (now (s .entry)) at) ⌝ }
+    ensures { λ r. ⌜ entryStep r ≡ withSymbol width (now (s .entry)) base offset kind (readSigned 33 (now (s .entry)) at) ⌝ }
 {
     let third = leb128::read_signed(s, at, 33);
     let Signed::Value(field, next) = third else {
-        return without(third);
+        let cause = third.cause();
+        let why = cause.why;
+        return Entry::Refused(why, cause.place);
     };
     let symbol = symbol_in(field);
     if leb128::is_negative(field) {
@@ -104,11 +90,13 @@ fn with_type(
     base: i64,
 ) -> Entry
     requires { ⌜ IsWidth width ⌝ }
-    ensures { λ r. ⌜ entryStep r ≡ typeOf width (now (s .entry)) (state before kind base) offset (readSigned 32 (now (s .entry)) at) ⌝ }
+    ensures { λ r. ⌜ entryStep r ≡ withType width (now (s .entry)) (state before kind base) offset (readSigned 32 (now (s .entry)) at) ⌝ }
 {
     let second = leb128::read_signed(s, at, 32);
     let Signed::Value(d, next) = second else {
-        return without(second);
+        let cause = second.cause();
+        let why = cause.why;
+        return Entry::Refused(why, cause.place);
     };
     let moved = wrap::moved(32, kind as u64, d);
     with_symbol(s, next, width, offset, moved as u32, base)
@@ -121,7 +109,9 @@ fn entry_at(s: &[u8], at: usize, width: u32, offset: u64, kind: u32, addend: i64
 {
     let first = leb128::read_unsigned(s, at, width);
     let Unsigned::Value(d, next) = first else {
-        return without_offset(first);
+        let cause = first.cause();
+        let why = cause.why;
+        return Entry::Refused(why, cause.place);
     };
     with_type(
         s,
@@ -134,16 +124,6 @@ fn entry_at(s: &[u8], at: usize, width: u32, offset: u64, kind: u32, addend: i64
     )
 }
 
-// The refusal of the offset's number, as a signed one's.
-fn unread(number: Unsigned) -> Signed
-    ensures { λ r. ⌜ r ≡ signedWithout number ⌝ }
-{
-    match number {
-        Unsigned::Refused(why, place) => Signed::Refused(why, place),
-        Unsigned::Value(_, next) => Signed::Refused(Refusal::Width, next),
-    }
-}
-
 // The last number of the record at a place, whose next place is past the record, or the refusal of any.
 fn skip_at(s: &[u8], at: usize, width: u32) -> Signed
     requires { ⌜ IsWidth width ⌝ }
@@ -151,7 +131,9 @@ fn skip_at(s: &[u8], at: usize, width: u32) -> Signed
 {
     let first = leb128::read_unsigned(s, at, width);
     let Unsigned::Value(_, next) = first else {
-        return unread(first);
+        let cause = first.cause();
+        let why = cause.why;
+        return Signed::Refused(why, cause.place);
     };
     let second = leb128::read_signed(s, next, 32);
     let Signed::Value(_, third_at) = second else {
@@ -175,15 +157,14 @@ fn walk(s: &[u8], width: u32, count: u64, first: usize) -> Found
     let mut left = count;
     let mut at = first;
     while 0 < left {
-        match skip_at(s, at, width) {
-            Signed::Refused(why, place) => {
-                return Found::Refused(why, place as u64);
-            }
-            Signed::Value(_, past) => {
-                at = past;
-                left -= 1;
-            }
-        }
+        let skipped = skip_at(s, at, width);
+        let Signed::Value(_, past) = skipped else {
+            let cause = skipped.cause();
+            let why = cause.why;
+            return Found::Refused(why, cause.place as u64);
+        };
+        at = past;
+        left -= 1;
     }
     if at < s.len() {
         return Found::Refused(Refusal::Trailing, at as u64);
@@ -191,16 +172,29 @@ fn walk(s: &[u8], width: u32, count: u64, first: usize) -> Found
     Found::Count(count)
 }
 
-// The count of the records of a table, or the refusal.
-pub fn scan(s: &[u8], width: u32) -> Found
+// The first pass over a table, however long it is.
+fn scan(s: &[u8], width: u32) -> Found
     requires { ⌜ IsWidth width ⌝ }
-    ensures { λ r. ⌜ r ≡ foundOf (decode width (now (s .entry))) ⌝ }
+    ensures { λ r. ⌜ r ≡ foundOf (parse width (now (s .entry))) ⌝ }
 {
     let head = leb128::read_unsigned(s, 0, 64);
     let Unsigned::Value(count, first) = head else {
-        return records::not_counted(head);
+        let cause = head.cause();
+        let why = cause.why;
+        return Found::Refused(why, cause.place as u64);
     };
     walk(s, width, count, first)
+}
+
+// The count of the records of a table, or the refusal: first that of a table over its limit.
+pub fn check(s: &[u8], width: u32) -> Found
+    requires { ⌜ IsWidth width ⌝ }
+    ensures { λ r. ⌜ r ≡ foundOf (decode width (now (s .entry))) ⌝ }
+{
+    if INPUT_LIMIT < s.len() {
+        return Found::Refused(Refusal::Limit, 0);
+    }
+    scan(s, width)
 }
 
 // The second pass over records that the first accepted.
@@ -244,7 +238,7 @@ fn store(
     }
 }
 
-// The records of a table that `scan` accepted, in columns with room for them.
+// The records of a table that `check` accepted, in columns with room for them.
 pub fn fill(
     s: &[u8],
     width: u32,

@@ -1,2 +1,2 @@
-pub mod Bytes
-pub mod Put
+pub mod EntryNeeds
+pub mod PassNeeds

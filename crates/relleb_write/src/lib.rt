@@ -1,17 +1,21 @@
 // The writer of RELLEB tables: a first pass that counts the table's bytes, and a second that puts them. The width is the class's.
 ghost use mathlib.Core.Path.{_≡_};
+ghost use mathlib.Core.Bool.{cond};
 ghost use Prim.Native.Nat.{_+_, _≤_};
 ghost use lib.IntN.{pos, negsuc};
 ghost use lib.ListN.{length};
-ghost use Rattle.answer.specs.Outcome.{pick, foundOf};
-ghost use Rattle.leb128.specs.Number.{IsWidth, Written};
+ghost use Rattle.answer.specs.Written.{Written};
+ghost use Rattle.leb128.specs.Number.{IsWidth};
 ghost use Rattle.records.specs.Writing.{puts, Puts};
 ghost use Rattle.relleb_table.specs.Table.{row, state, start, behind, rows, symbolBytes, typeBytes, fieldBytes, putOf, encode};
-ghost use Rattle.relleb_table.specs.Contract.{Listed};
-ghost use Rattle.relleb_table.specs.Inner.{Puttable};
+ghost use Rattle.relleb_table.specs.Contract.{Same};
+ghost use Rattle.relleb_table.specs.Inner.{Listed, Measures, Puttable};
 ghost use Rattle.relleb_write.specs.Inner.{fieldsPut, Measured};
+ghost use Rattle.word.specs.Class.{bitsOf};
 use answer::Found;
+use answer::LIST_LIMIT;
 use answer::Refusal;
+use word::Class;
 
 // A record as its numbers: the offset's difference, the type's, the symbol field, and the addend's difference, which is written behind a
 // negative symbol field.
@@ -22,7 +26,7 @@ pub enum Fields {
 
 // The symbol field.
 fn field_of(symbol: u32, same: bool) -> i64
-    ensures { λ r. ⌜ r ≡ pick same (pos symbol) (negsuc symbol) ⌝ }
+    ensures { λ r. ⌜ r ≡ cond same (pos symbol) (negsuc symbol) ⌝ }
 {
     if same {
         return symbol as i64;
@@ -44,10 +48,10 @@ fn fields_of(
     requires { ⌜ IsWidth width ⌝ }
     ensures { λ r. ⌜ fieldsPut r ≡ putOf width (state before last base) (row offset kind symbol addend) ⌝ }
 {
-    if !wrap::within(width, offset) {
+    if !wrap::fits_unsigned(width, offset) {
         return Fields::Refused(Refusal::Space);
     }
-    if !wrap::within_signed(width, addend) {
+    if !wrap::fits_signed(width, addend) {
         return Fields::Refused(Refusal::Addend);
     }
     let step = wrap::sub(width, offset, before);
@@ -57,6 +61,7 @@ fn fields_of(
     Fields::Numbers(step, turn, field, change)
 }
 
+// How many bytes a record's numbers take.
 fn fields_len(step: u64, turn: i64, field: i64, change: i64) -> usize
     ensures { λ r. ⌜ Measured r (fieldBytes step turn field change) ⌝ }
 {
@@ -67,7 +72,7 @@ fn fields_len(step: u64, turn: i64, field: i64, change: i64) -> usize
     three
 }
 
-// The numbers from the symbol field on, from the type's difference on, and all of them, at a place.
+// The numbers from the symbol field on, at a place.
 fn put_symbol(table: &mut [u8], at: usize, field: i64, change: i64) -> usize
     requires { ⌜ at + length (symbolBytes field change) ≤ length (now table) ⌝ }
     ensures { λ r. ⌜ Written (now (table .entry)) (now (table .exit)) at r (symbolBytes field change) ⌝ }
@@ -79,6 +84,7 @@ fn put_symbol(table: &mut [u8], at: usize, field: i64, change: i64) -> usize
     next
 }
 
+// From the type's difference on.
 fn put_type(table: &mut [u8], at: usize, turn: i64, field: i64, change: i64) -> usize
     requires { ⌜ at + length (typeBytes turn field change) ≤ length (now table) ⌝ }
     ensures { λ r. ⌜ Written (now (table .entry)) (now (table .exit)) at r (typeBytes turn field change) ⌝ }
@@ -87,6 +93,7 @@ fn put_type(table: &mut [u8], at: usize, turn: i64, field: i64, change: i64) -> 
     put_symbol(&mut *table, next, field, change)
 }
 
+// All of them.
 fn put_fields(table: &mut [u8], at: usize, step: u64, turn: i64, field: i64, change: i64) -> usize
     requires { ⌜ at + length (fieldBytes step turn field change) ≤ length (now table) ⌝ }
     ensures { λ r. ⌜ Written (now (table .entry)) (now (table .exit)) at r (fieldBytes step turn field change) ⌝ }
@@ -95,10 +102,10 @@ fn put_fields(table: &mut [u8], at: usize, step: u64, turn: i64, field: i64, cha
     put_type(&mut *table, next, turn, field, change)
 }
 
-// The bytes of a whole table, or the refusal.
-pub fn size(width: u32, offsets: &[u64], types: &[u32], symbols: &[u32], addends: &[i64]) -> Found
+// The first pass over a list within its limit.
+fn size(width: u32, offsets: &[u64], types: &[u32], symbols: &[u32], addends: &[i64]) -> Found
     requires { ⌜ (IsWidth width) × (Listed (now offsets) (now types) (now symbols) (now addends)) ⌝ }
-    ensures { λ r. ⌜ r ≡ foundOf (encode width (rows (now (offsets .entry)) (now (types .entry)) (now (symbols .entry)) (now (addends .entry)))) ⌝ }
+    ensures { λ r. ⌜ Measures width (now (offsets .entry)) (now (types .entry)) (now (symbols .entry)) (now (addends .entry)) r ⌝ }
 {
     let n = offsets.len();
     let mut total = leb128::unsigned_len(n as u64);
@@ -125,6 +132,27 @@ pub fn size(width: u32, offsets: &[u64], types: &[u32], symbols: &[u32], addends
         }
     }
     Found::Count(total as u64)
+}
+
+// How many bytes a table of a class takes, or the refusal: first that of a list over its limit. The first pass is a loop for each class,
+// with the class's width in it.
+pub fn measure(
+    kind: Class,
+    offsets: &[u64],
+    types: &[u32],
+    symbols: &[u32],
+    addends: &[i64],
+) -> Found
+    requires { ⌜ Same (now offsets) (now types) (now symbols) (now addends) ⌝ }
+    ensures { λ r. ⌜ Measures (bitsOf kind) (now (offsets .entry)) (now (types .entry)) (now (symbols .entry)) (now (addends .entry)) r ⌝ }
+{
+    if LIST_LIMIT < offsets.len() {
+        return Found::Refused(Refusal::Limit, 0);
+    }
+    match kind {
+        Class::Four => size(Class::FOUR_BITS, offsets, types, symbols, addends),
+        Class::Eight => size(Class::EIGHT_BITS, offsets, types, symbols, addends),
+    }
 }
 
 // The records' bytes from a place on.

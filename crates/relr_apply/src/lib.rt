@@ -3,10 +3,10 @@ ghost use mathlib.Core.Path.{_≡_};
 ghost use Prim.Native.Nat.{_+_, _-_, _≤_};
 ghost use lib.ListN.{length};
 ghost use Rattle.word.specs.Class.{bytesOf};
-ghost use Rattle.relr_table.specs.Table.{added, patched};
+ghost use Rattle.relr_table.specs.Table.{above, added, patched};
 ghost use Rattle.relr_table.specs.Contract.{AppliesIn};
 ghost use Rattle.relr_table.specs.Inner.{marksOf};
-ghost use Rattle.relr_apply.specs.Inner.{Patchable, Targeted, Patched, above};
+ghost use Rattle.relr_apply.specs.Inner.{Patchable, Targeted, Patched};
 use answer::Answer;
 use answer::Found;
 use answer::Refusal;
@@ -49,6 +49,7 @@ fn patch(k: Class, s: &[u8], base: u64, image: &mut [u8])
     let mut place = place::NOWHERE;
     while at < s.len() {
         let opened = place::open(k, place, word::load(k, s, at));
+        at += c;
         match opened {
             Opened::Refused(_) => {
                 return;
@@ -56,12 +57,10 @@ fn patch(k: Class, s: &[u8], base: u64, image: &mut [u8])
             Opened::Address(x, next) => {
                 add_at(k, &mut *image, x as usize, base);
                 place = next;
-                at += c;
             }
             Opened::Marks(start, set, next) => {
                 patch_marks(k, &mut *image, base, start, set);
                 place = next;
-                at += c;
             }
         }
     }
@@ -82,10 +81,7 @@ fn places(k: Class, size: usize) -> u64
 fn over(k: Class, base: u64) -> bool
     ensures { λ r. ⌜ r ≡ above k base ⌝ }
 {
-    match k {
-        Class::Four => 4294967295 < base,
-        Class::Eight => false,
-    }
+    k.largest() < base
 }
 
 // Applying, for a class.

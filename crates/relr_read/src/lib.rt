@@ -1,10 +1,10 @@
 // Reading a table into a column of offsets.
 ghost use Prim.Native.Nat.{_+_};
 ghost use mathlib.Core.Path.{_≡_};
-ghost use Rattle.answer.specs.Outcome.{foundOf};
+ghost use Rattle.answer.specs.Outcome.{Gives, foundOf};
+ghost use Rattle.answer.specs.Written.{Written};
 ghost use Rattle.relr_table.specs.Table.{decode};
-ghost use Rattle.relr_table.specs.Contract.{ReadsIn};
-ghost use Rattle.relr_table.specs.Inner.{marksOf, Put};
+ghost use Rattle.relr_table.specs.Inner.{marksOf};
 ghost use Rattle.relr_read.specs.Inner.{Markable, Fillable, Filled};
 use answer::Answer;
 use answer::Found;
@@ -12,12 +12,10 @@ use relr_table::place;
 use relr_table::place::Opened;
 use word::Class;
 
-pub mod cursor;
-
 // Puts the locations that the bits mark from an offset on into a column, and returns the index after them.
 fn fill_marks(k: Class, column: &mut [u64], at: usize, start: u64, set: u64) -> usize
     requires { ⌜ Markable k (now column) at start set ⌝ }
-    ensures { λ r. ⌜ Put (now (column .entry)) at (marksOf k set start) r (now (column .exit)) ⌝ }
+    ensures { λ r. ⌜ Written (now (column .entry)) (now (column .exit)) at r (marksOf k set start) ⌝ }
 {
     let mut bits = set;
     let mut d: u64 = 0;
@@ -44,6 +42,7 @@ fn fill(k: Class, s: &[u8], column: &mut [u64])
     let mut i: usize = 0;
     while at < s.len() {
         let opened = place::open(k, place, word::load(k, s, at));
+        at += c;
         match opened {
             Opened::Refused(_) => {
                 return;
@@ -52,12 +51,10 @@ fn fill(k: Class, s: &[u8], column: &mut [u64])
                 column[i] = x;
                 i += 1;
                 place = next;
-                at += c;
             }
             Opened::Marks(start, set, next) => {
                 i = fill_marks(k, &mut *column, i, start, set);
                 place = next;
-                at += c;
             }
         }
     }
@@ -68,14 +65,14 @@ fn count(k: Class, table: &[u8]) -> Found
     ensures { λ r. ⌜ r ≡ foundOf (decode k (now (table .entry))) ⌝ }
 {
     match k {
-        Class::Four => relr_walk::find_by(false, table, place::last(Class::Four) + 1),
-        Class::Eight => relr_walk::find_by(true, table, place::last(Class::Eight) + 1),
+        Class::Four => relr_walk::find_by(false, table, Class::Four.last() + 1),
+        Class::Eight => relr_walk::find_by(true, table, Class::Eight.last() + 1),
     }
 }
 
 // Reading, for a class.
 pub fn read_class(k: Class, table: &[u8], offsets: &mut [u64]) -> Answer
-    ensures { λ r. ⌜ ReadsIn k (now (table .entry)) (now (offsets .entry)) r (now (offsets .exit)) ⌝ }
+    ensures { λ r. ⌜ Gives (decode k (now (table .entry))) (now (offsets .entry)) r (now (offsets .exit)) ⌝ }
 {
     let found = count(k, table);
     match found {

@@ -1,4 +1,2 @@
-pub mod PackNeeds
-pub mod WriteNeeds
-pub mod PutNeeds
-pub mod Least
+pub mod EntryNeeds
+pub mod PassNeeds

@@ -7,7 +7,6 @@ use Prim.Native.Nat.{ℕ, suc, _+_, _-_, _*_, _^_, _%_, _/_, _≤_, _<_}
 use lib.Dec.{ltb, eqb}
 use lib.ListN.{length, drop}
 use Rattle.answer.specs.declared.Refusal.the-variants.{Order, Space, Odd}
-use Rattle.answer.specs.Outcome.{Outcome, accepted}
 use Rattle.word.specs.declared.Class.{Class}
 use Rattle.word.specs.Class.{bytesOf, windowOf}
 use Rattle.word.specs.Word.{bytesOfWords}
@@ -20,13 +19,8 @@ use Rattle.relr_write.specs.declared.packer.Pending.{Pending}
 use Rattle.relr_write.specs.declared.Fault.{Fault}
 use Rattle.relr_write.specs.declared.Rest.{Rest}
 use Rattle.relr_write.specs.declared.Fault.the-variants.{Clean, Bad}
-use Rattle.relr_table.specs.Table.{spaceOf, checked}
+use Rattle.relr_table.specs.Table.{spaceOf, tableBytes}
 use Rattle.relr_table.specs.Place.{Place, Stands}
-
--- r is a distance in words, or, where that is not whole words, no number of a window
-pub record InWords (k : Class) (d r : ℕ) : Type 0 where
-  pub whole : d % bytesOf k ≡ 0 → r ≡ d / bytesOf k
-  pub part : r < windowOf k → d % bytesOf k ≡ 0
 
 -- an even place is not far above an offset
 abbrev pub Near : Place → ℕ → Type 0
@@ -102,13 +96,6 @@ faultOf k x least = cond (eqb (x % 2) 1) (Bad Odd) (cond (ltb (spaceOf k) (x + b
 -- the words of a bitmap that is pending at the end
 abbrev pub endOf : ℕ → List ℕ
 endOf b = cond (ltb 0 b) ((2 * b + 1) ∷ []) []
-
--- the bytes of a table, and the outcome of a list that is not too long
-abbrev pub tableBytes : Class → List ℕ → List ℕ
-tableBytes k l = bytesOfWords (bytesOf k) (table (bytesOf k) (windowOf k) l)
-
-unfoldable pub checkedTable : Class → List ℕ → Outcome (List ℕ)
-checkedTable k l = checked (bytesOf k) (spaceOf k) 0 0 l (accepted (tableBytes k l))
 
 -- a list that the first pass accepted, and room for its table
 pub record Encodable (k : Class) (l old : List ℕ) : Type 0 where

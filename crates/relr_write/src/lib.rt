@@ -4,11 +4,13 @@ ghost use mathlib.Core.List.{[], _∷_, _++_};
 ghost use Prim.Native.Nat.{_≤_};
 ghost use lib.ListN.{length, drop};
 ghost use Rattle.answer.specs.Outcome.{foundOf, listLimit};
+ghost use Rattle.answer.specs.Written.{Written};
 ghost use Rattle.word.specs.Class.{bytesOf};
 ghost use Rattle.word.specs.Word.{bytesOfWords};
 ghost use Rattle.relr_table.specs.Contract.{WritesIn};
-ghost use Rattle.relr_table.specs.Inner.{flagged, Put};
-ghost use Rattle.relr_write.specs.Inner.{faultOf, checkedTable, Encodable, Room, Leaves, tableBytes};
+ghost use Rattle.relr_table.specs.Inner.{flagged};
+ghost use Rattle.relr_table.specs.Table.{build, tableBytes, encode};
+ghost use Rattle.relr_write.specs.Inner.{faultOf, Encodable, Room, Leaves};
 use crate::packer::Packed;
 use crate::packer::Pending;
 use answer::Answer;
@@ -31,7 +33,7 @@ fn faulty(k: Class, x: u64, least: u64) -> Fault
     if x % 2 == 1 {
         return Fault::Bad(Refusal::Odd);
     }
-    if place::last(k) < x {
+    if k.last() < x {
         return Fault::Bad(Refusal::Space);
     }
     if x < least {
@@ -43,7 +45,7 @@ fn faulty(k: Class, x: u64, least: u64) -> Fault
 // The first pass: how many bytes the table takes, or the first bad offset. Of a pending bitmap it keeps one bit, which is as many words.
 fn size(k: Class, offsets: &[u64]) -> Found
     requires { ⌜ length (now offsets) ≤ listLimit ⌝ }
-    ensures { λ r. ⌜ r ≡ foundOf (checkedTable k (now (offsets .entry))) ⌝ }
+    ensures { λ r. ⌜ r ≡ foundOf (build k (now (offsets .entry))) ⌝ }
 {
     let n = offsets.len();
     let mut i: usize = 0;
@@ -84,18 +86,21 @@ fn size(k: Class, offsets: &[u64]) -> Found
     Found::Count((words + bits) * (k.bytes() as u64))
 }
 
-// The same by a flag for the class and for each class, so that the compiler makes a loop for each.
+// The same by a flag for the class, so that the compiler makes a loop for each.
 fn size_by(wide: bool, offsets: &[u64]) -> Found
     requires { ⌜ length (now offsets) ≤ listLimit ⌝ }
-    ensures { λ r. ⌜ r ≡ foundOf (checkedTable (flagged wide) (now (offsets .entry))) ⌝ }
+    ensures { λ r. ⌜ r ≡ foundOf (build (flagged wide) (now (offsets .entry))) ⌝ }
 {
     size(place::chosen(wide), offsets)
 }
 
+// How many bytes the table of any list takes, or the refusal.
 fn measure(k: Class, offsets: &[u64]) -> Found
-    requires { ⌜ length (now offsets) ≤ listLimit ⌝ }
-    ensures { λ r. ⌜ r ≡ foundOf (checkedTable k (now (offsets .entry))) ⌝ }
+    ensures { λ r. ⌜ r ≡ foundOf (encode k (now (offsets .entry))) ⌝ }
 {
+    if answer::LIST_LIMIT < offsets.len() {
+        return Found::Refused(Refusal::Limit, 0);
+    }
     match k {
         Class::Four => size_by(false, offsets),
         Class::Eight => size_by(true, offsets),
@@ -105,7 +110,7 @@ fn measure(k: Class, offsets: &[u64]) -> Found
 // Stores a word at a place, and returns the place after it.
 fn put_word(k: Class, table: &mut [u8], at: usize, w: u64) -> usize
     requires { ⌜ Room at (bytesOf k) (now table) ⌝ }
-    ensures { λ r. ⌜ Put (now (table .entry)) at (bytesOfWords (bytesOf k) (w ∷ [])) r (now (table .exit)) ⌝ }
+    ensures { λ r. ⌜ Written (now (table .entry)) (now (table .exit)) at r (bytesOfWords (bytesOf k) (w ∷ [])) ⌝ }
 {
     word::store(k, &mut *table, at, w);
     at + (k.bytes() as usize)
@@ -187,9 +192,6 @@ fn fill(k: Class, offsets: &[u64], table: &mut [u8])
 pub fn write_class(k: Class, offsets: &[u64], table: &mut [u8]) -> Answer
     ensures { λ r. ⌜ WritesIn k (now (offsets .entry)) (now (table .entry)) r (now (table .exit)) ⌝ }
 {
-    if answer::LIST_LIMIT < offsets.len() {
-        return answer::refuse(Refusal::Limit, 0);
-    }
     let found = measure(k, offsets);
     match found {
         Found::Refused(why, at) => answer::refuse(why, at),

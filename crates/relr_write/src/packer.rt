@@ -3,7 +3,7 @@ ghost use mathlib.Core.Path.{_≡_};
 ghost use Prim.Native.Nat.{_+_, _%_, _^_, _≤_, _<_};
 ghost use Rattle.word.specs.Class.{bytesOf};
 ghost use Rattle.relr_table.specs.Table.{spaceOf};
-ghost use Rattle.relr_write.specs.Inner.{InWords, Near, LocatedAt, Small, ForwardFrom, Packs};
+ghost use Rattle.relr_write.specs.Inner.{Near, LocatedAt, Small, ForwardFrom, Packs};
 use relr_table::place;
 use word::Class;
 
@@ -34,23 +34,13 @@ fn bit(j: u64) -> u64
     1u64 << j
 }
 
-// A distance in words, or, where it is not whole words, a number past every window: the bits below a word come to the top.
-fn in_words(k: Class, d: u64) -> u64
-    ensures { λ r. ⌜ InWords k d r ⌝ }
-{
-    match k {
-        Class::Four => d / 4 + d % 4 * 4611686018427387904,
-        Class::Eight => d / 8 + d % 8 * 2305843009213693952,
-    }
-}
-
 // Where x falls in the bitmap that starts at a place. Nowhere and beyond are odd, so that x falls nowhere from there on.
 fn locate(k: Class, place: u64, x: u64) -> Location
     requires { ⌜ (x + bytesOf k ≤ spaceOf k) × (x % 2 ≡ 0) × Near place x ⌝ }
     ensures { λ r. ⌜ LocatedAt k place x r × Small r ⌝ }
 {
     let d = std::num::wrapping_sub_u64(x, place);
-    let j = in_words(k, d);
+    let j = k.in_words(d);
     if j < k.window() as u64 {
         return Location::On(j);
     }
@@ -61,8 +51,8 @@ fn locate(k: Class, place: u64, x: u64) -> Location
 fn forward(k: Class, place: u64) -> u64
     ensures { λ r. ⌜ ForwardFrom k place r ⌝ }
 {
-    if place <= place::last(k) {
-        return place::past(k, place, place::stride(k));
+    if place <= k.last() {
+        return place::past(k, place, k.stride());
     }
     place::BEYOND
 }

@@ -112,7 +112,7 @@ pub fn sub_signed(width: u32, a: i64, b: i64) -> i64
 }
 
 // Whether a number has at most so many bits.
-pub fn within(width: u32, x: u64) -> bool
+pub fn fits_unsigned(width: u32, x: u64) -> bool
     requires { ⌜ IsWidth width ⌝ }
     ensures { λ r. ⌜ r ≡ ltb x (2 ^ width) ⌝ }
 {
@@ -123,7 +123,7 @@ pub fn within(width: u32, x: u64) -> bool
 }
 
 // Whether a signed number has at most so many bits, the sign among them.
-pub fn within_signed(width: u32, x: i64) -> bool
+pub fn fits_signed(width: u32, x: i64) -> bool
     requires { ⌜ IsWidth width ⌝ }
     ensures { λ r. ⌜ r ≡ ltb (mag x) (2 ^ (width - 1)) ⌝ }
 {

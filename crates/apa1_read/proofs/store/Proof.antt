@@ -1,9 +1,6 @@
-use Rattle.apa1_read.proofs.Pass.{Storing, stores}
+use Rattle.apa1_read.proofs.PassNeeds.{Storing, stores}
 use Rattle.apa1_read.proofs.store.Statement.{statement}
 use Rattle.apa1_read.proofs.store.Tie as tie
-use Rattle.apa1_read.proofs.store.Reads as reads
-use Rattle.apa1_read.proofs.store.Lts as lts
-use Rattle.apa1_read.proofs.entry_at.Reads as entry-at-reads
 
 abbrev Inv-loop : tie.InvT-loop
 Inv-loop s count first offsets₀ addends₀ rest₀ from₀ offset₀ addend₀ i₀ offsets addends rest from offset addend i =
@@ -13,75 +10,57 @@ abbrev μ-loop : tie.MeasureT-loop
 μ-loop s count first offsets₀ addends₀ rest₀ from₀ offset₀ addend₀ i₀ offsets addends rest from offset addend i =
     rest
 
--- src/reader.rt:127:5
 loop-holds : tie.Need-loop-holds Inv-loop μ-loop
 loop-holds c = search stores
 
--- src/reader.rt:128:15
 entry-at-requires : tie.Need-entry-at-requires Inv-loop μ-loop
 entry-at-requires c κs = search stores
 
--- src/reader.rt:130:17
 enum-told : tie.Need-enum-told Inv-loop μ-loop
 enum-told c = search stores
 
--- src/reader.rt:130:17
 same-length : tie.Need-same-length Inv-loop μ-loop
 same-length c = search stores
 
--- src/reader.rt:130:17
 same-length-2 : tie.Need-same-length-2 Inv-loop μ-loop
 same-length-2 c = search stores
 
--- src/reader.rt:130:17
 returns : tie.Need-returns Inv-loop μ-loop
 returns c = search stores
 
--- src/reader.rt:132:27
 enum-known-o : tie.Need-enum-known-o Inv-loop μ-loop
 enum-known-o c = search stores
 
--- src/reader.rt:135:17
 mul-offsets : tie.Need-mul-offsets Inv-loop μ-loop
 mul-offsets c = search stores
 
--- src/reader.rt:135:17
 slice-write-offsets : tie.Need-slice-write-offsets Inv-loop μ-loop
 slice-write-offsets c = search stores
 
--- src/reader.rt:136:17
 mul-addend : tie.Need-mul-addend Inv-loop μ-loop
 mul-addend c = search stores
 
--- src/reader.rt:136:17
 slice-set-from-addend : tie.Need-slice-set-from-addend Inv-loop μ-loop
 slice-set-from-addend c = search stores
 
--- src/reader.rt:138:17
 sub-rest : tie.Need-sub-rest Inv-loop μ-loop
 sub-rest c = search stores
 
--- src/reader.rt:139:17
 add-i : tie.Need-add-i Inv-loop μ-loop
 add-i c = search stores
 
--- src/reader.rt:127:5
 loop-less : tie.Need-loop-less Inv-loop μ-loop
 loop-less c = search stores
 
--- src/reader.rt:127:5
 loop-again : tie.Need-loop-again Inv-loop μ-loop
 loop-again c = search stores
 
--- src/reader.rt:118:1
 same-length-3 : tie.Need-same-length-3 Inv-loop μ-loop
 same-length-3 c = search stores
 
--- src/reader.rt:118:1
 same-length-4 : tie.Need-same-length-4 Inv-loop μ-loop
 same-length-4 c = search stores
 
--- src/reader.rt:118:1
 returns-2 : tie.Need-returns-2 Inv-loop μ-loop
 returns-2 c = search stores
 

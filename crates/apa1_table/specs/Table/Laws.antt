@@ -9,19 +9,21 @@ use native.Mathlib.Omega.{arith}
 use lib.Signed.{mag}
 use lib.ListN.{length, drop, getD, length-map, length-append}
 use Rattle.answer.specs.declared.Refusal.{Refusal}
-use Rattle.answer.specs.declared.Refusal.the-variants.{Identifier, Width}
-use Rattle.answer.specs.Outcome.{after}
+use Rattle.answer.specs.declared.Refusal.the-variants.{Limit, Identifier, Width}
+use Rattle.answer.specs.Outcome.{accepted, refused, inputLimit, listLimit, after}
+use Rattle.answer.specs.Outcome.Laws.{limited-over, limited-in, limited-accepted}
 use Rattle.leb128.specs.Number.{readSigned, shortSigned, isNeg}
 use Rattle.leb128.specs.declared.Signed.the-variants.{Value, Refused}
 use Rattle.leb128.specs.declared.Unsigned.the-variants.{Value as UValue, Refused as URefused}
 use Rattle.records.specs.Columns.Laws.{from, map-from, zipped-from, zipped-length}
 use Rattle.records.specs.Identifier.{startsWith}
 use Rattle.records.specs.Reading.{one, none, counted}
+use Rattle.records.specs.Reading.Laws.{counted-not}
 use Rattle.records.specs.Writing.{puts}
 use Rattle.leb128.proofs.RoundTrip.{signed-bytes}
 use Rattle.wrap.specs.Wrap.{residue, wrapped}
 use Rattle.wrap.specs.Wrap.Laws.{wrapped-range}
-use Rattle.apa1_table.specs.Table.{Row, row, start, identifier, secondOf, firstOf, stepAt, countOf, headAt, decode, rows, entryBytes, bytesOf, behind, headOf, encode}
+use Rattle.apa1_table.specs.Table.{Row, row, start, identifier, secondOf, firstOf, stepAt, countOf, headAt, parse, decode, rows, entryBytes, putOf, behind, headOf, build, encode}
 
 -- ---- a record
 module _ (s : List ℕ) (at : ℕ) (prev : Row) where
@@ -46,15 +48,15 @@ module _ (s : List ℕ) where
   head-other e = rw e
 
   module _ (e : startsWith identifier s ≡ true) where
-    pub head-not : {why : Refusal} {p : ℕ} → readSigned 64 s 4 ≡ Refused why p → headAt s ≡ URefused why p
+    pub head-not : {why : Refusal} {p : ℕ} → readSigned 64 s (length identifier) ≡ Refused why p → headAt s ≡ URefused why p
     unfolding headAt countOf
     head-not f = rw (e, f)
 
-    pub head-is : {z : ℤ} {first : ℕ} → readSigned 64 s 4 ≡ Value z first → headAt s ≡ countOf (Value z first)
+    pub head-is : {z : ℤ} {first : ℕ} → readSigned 64 s (length identifier) ≡ Value z first → headAt s ≡ countOf (Value z first)
     unfolding headAt
     head-is f = rw (e, f)
 
-pub count-negative : (z : ℤ) (first : ℕ) → isNeg z ≡ true → countOf (Value z first) ≡ URefused Width 4
+pub count-negative : (z : ℤ) (first : ℕ) → isNeg z ≡ true → countOf (Value z first) ≡ URefused Width (length identifier)
 unfolding countOf
 count-negative (pos n) first e = let o : _≡_ {A = ℕ} 0 1 = cc in absurd (omega arith)
 count-negative (negsuc n) first e = refl
@@ -65,9 +67,27 @@ count-other (pos n) first e = refl
 count-other (negsuc n) first e = let o : _≡_ {A = ℕ} 0 1 = cc in absurd (omega arith)
 
 -- ---- the whole
-pub decode-is : (s : List ℕ) → decode s ≡ counted (stepAt s) (length s) start (headAt s)
-unfolding decode
-decode-is s = refl
+module _ (s : List ℕ) where
+  pub parse-is : parse s ≡ counted (stepAt s) (length s) start (headAt s)
+  unfolding parse
+  parse-is = refl
+
+  pub decode-over : inputLimit < length s → decode s ≡ refused Limit 0
+  unfolding decode
+  decode-over h = limited-over inputLimit (length s) (parse s) h
+
+  pub decode-in : length s ≤ inputLimit → decode s ≡ parse s
+  unfolding decode
+  decode-in h = limited-in inputLimit (length s) (parse s) h
+
+  pub decode-accepted : {l : List Row} → decode s ≡ accepted l → (length s ≤ inputLimit) × (parse s ≡ accepted l)
+  unfolding decode
+  decode-accepted e = limited-accepted inputLimit (length s) (parse s) e
+
+  -- a negative count is refusal 5 at its first byte
+  pub decode-negative : {n next : ℕ} → length s ≤ inputLimit → startsWith identifier s ≡ true → readSigned 64 s (length identifier) ≡ Value (negsuc n) next
+      → decode s ≡ refused Width (length identifier)
+  decode-negative {n} {next} h i e = decode-in h ∙ parse-is ∙ counted-not (stepAt s) (length s) start (head-is s i e ∙ count-negative (negsuc n) next refl)
 
 -- ---- the records of columns
 module _ (os : List ℕ) (us : List ℤ) (same : length os ≡ length us) where
@@ -80,9 +100,22 @@ module _ (os : List ℕ) (us : List ℤ) (same : length os ≡ length us) where
   rows-from i h = zipped-from (map row os) us i (map-from row os i (from os i 0 h)) (from us i (pos 0) (omega arith))
 
 -- ---- the bytes
-pub encode-is : (l : List Row) → encode l ≡ after (headOf (length l)) (puts bytesOf behind 0 start l)
-unfolding encode
-encode-is l = refl
+module _ (l : List Row) where
+  pub build-is : build l ≡ after (headOf (length l)) (puts putOf behind 0 start l)
+  unfolding build
+  build-is = refl
+
+  pub encode-over : listLimit < length l → encode l ≡ refused Limit 0
+  unfolding encode
+  encode-over h = limited-over listLimit (length l) (build l) h
+
+  pub encode-in : length l ≤ listLimit → encode l ≡ build l
+  unfolding encode
+  encode-in h = limited-in listLimit (length l) (build l) h
+
+  pub encode-accepted : {b : List ℕ} → encode l ≡ accepted b → (length l ≤ listLimit) × (build l ≡ accepted b)
+  unfolding encode
+  encode-accepted e = limited-accepted listLimit (length l) (build l) e
 
 pub head-bytes : (n : ℕ) → headOf n ≡ identifier ++ shortSigned (pos n)
 unfolding headOf

@@ -1,4 +1,4 @@
-use Rattle.apr1_write.proofs.WriteNeeds.{lengths}
+use Rattle.apr1_write.proofs.EntryNeeds.{lengths}
 use borrow.Author.Needs.{needs}
 use Rattle.apr1_write.proofs.head_len.Statement.{statement}
 use Rattle.apr1_write.proofs.head_len.Tie as tie
@@ -6,15 +6,12 @@ use Rattle.apr1_write.proofs.head_len.Reads as reads
 use Rattle.apr1_write.proofs.head_len.Lts as lts
 use Rattle.apr1_write.proofs.pair_len.Reads as pair-len-reads
 
--- src/writer.rt:62:9
 pair-len-requires : tie.Need-pair-len-requires
 pair-len-requires c κs = search needs
 
--- src/writer.rt:62:5
 add-result : tie.Need-add-result
 add-result c = search lengths
 
--- src/writer.rt:59:1
 returns : tie.Need-returns
 returns c = search lengths
 

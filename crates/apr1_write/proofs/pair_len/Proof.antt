@@ -1,4 +1,4 @@
-use Rattle.apr1_write.proofs.WriteNeeds.{lengths}
+use Rattle.apr1_write.proofs.EntryNeeds.{lengths}
 use borrow.Author.Needs.{needs}
 use Rattle.apr1_write.proofs.pair_len.Statement.{statement}
 use Rattle.apr1_write.proofs.pair_len.Tie as tie
@@ -6,19 +6,15 @@ use Rattle.apr1_write.proofs.pair_len.Reads as reads
 use Rattle.apr1_write.proofs.pair_len.Lts as lts
 use Rattle.leb128.proofs.unsigned_len.Reads as unsigned-len-reads
 
--- src/writer.rt:43:5
 unsigned-len-requires : tie.Need-unsigned-len-requires
 unsigned-len-requires c κs = search needs
 
--- src/writer.rt:43:31
 unsigned-len-requires-2 : tie.Need-unsigned-len-requires-2
 unsigned-len-requires-2 c κs = search needs
 
--- src/writer.rt:43:5
 add-result : tie.Need-add-result
 add-result c = search lengths
 
--- src/writer.rt:40:1
 returns : tie.Need-returns
 returns c = search lengths
 

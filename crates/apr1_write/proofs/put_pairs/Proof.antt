@@ -1,4 +1,4 @@
-use Rattle.apr1_write.proofs.WriteNeeds.{Putting, puttings}
+use Rattle.apr1_write.proofs.PassNeeds.{Putting, puttings}
 use lib.ListN.{length}
 use Prim.Native.Nat.{_-_}
 use Rattle.apr1_write.proofs.put_pairs.Statement.{statement}
@@ -14,71 +14,54 @@ Inv-loop offsets table₀ first j₀ x₀ at₀ table j x at = Putting offsets t
 abbrev μ-loop : tie.MeasureT-loop
 μ-loop offsets table₀ first j₀ x₀ at₀ table j x at = length offsets - j
 
--- src/writer.rt:110:17
 shared-slice-read-x : tie.Need-shared-slice-read-x Inv-loop μ-loop
 shared-slice-read-x c = search puttings
 
--- src/writer.rt:112:5
 loop-holds : tie.Need-loop-holds Inv-loop μ-loop
 loop-holds c = search puttings
 
--- src/writer.rt:113:17
 mul-y : tie.Need-mul-y Inv-loop μ-loop
 mul-y c = search puttings
 
--- src/writer.rt:113:17
 shared-slice-read-y : tie.Need-shared-slice-read-y Inv-loop μ-loop
 shared-slice-read-y c = search puttings
 
--- src/writer.rt:114:17
 sub-d : tie.Need-sub-d Inv-loop μ-loop
 sub-d c = search puttings
 
--- src/writer.rt:115:35
 add-run-from : tie.Need-add-run-from Inv-loop μ-loop
 add-run-from c = search puttings
 
--- src/writer.rt:115:13
 run-from-requires : tie.Need-run-from-requires Inv-loop μ-loop
 run-from-requires c κs = search puttings
 
--- src/writer.rt:116:40
 add-put-pair : tie.Need-add-put-pair Inv-loop μ-loop
 add-put-pair c = search puttings
 
--- src/writer.rt:116:9
 put-pair-requires : tie.Need-put-pair-requires Inv-loop μ-loop
 put-pair-requires c κs = search puttings
 
--- src/writer.rt:117:17
 mul-x : tie.Need-mul-x Inv-loop μ-loop
 mul-x c = search puttings
 
--- src/writer.rt:117:13
 add-x : tie.Need-add-x Inv-loop μ-loop
 add-x c = search puttings
 
--- src/writer.rt:118:13
 add-j : tie.Need-add-j Inv-loop μ-loop
 add-j c = search puttings
 
--- src/writer.rt:118:13
 add-j-2 : tie.Need-add-j-2 Inv-loop μ-loop
 add-j-2 c = search puttings
 
--- src/writer.rt:112:5
 loop-less : tie.Need-loop-less Inv-loop μ-loop
 loop-less c = search puttings
 
--- src/writer.rt:112:5
 loop-again : tie.Need-loop-again Inv-loop μ-loop
 loop-again c = search puttings
 
--- src/writer.rt:105:1
 same-length : tie.Need-same-length Inv-loop μ-loop
 same-length c = search puttings
 
--- src/writer.rt:105:1
 returns : tie.Need-returns Inv-loop μ-loop
 returns c = search puttings
 

@@ -1,4 +1,4 @@
-use Rattle.apr1_write.proofs.WriteNeeds.{Counting, counts}
+use Rattle.apr1_write.proofs.EntryNeeds.{Counting, counts}
 use lib.ListN.{length}
 use Prim.Native.Nat.{_-_}
 use Rattle.apr1_write.proofs.run_from.Statement.{statement}
@@ -12,63 +12,48 @@ Inv-loop offsets from y d i₀ x₀ i x = Counting offsets from y d i x
 abbrev μ-loop : tie.MeasureT-loop
 μ-loop offsets from y d i₀ x₀ i x = length offsets - i
 
--- src/writer.rt:25:5
 loop-holds : tie.Need-loop-holds Inv-loop μ-loop
 loop-holds c = search counts
 
--- src/writer.rt:26:17
 mul-z : tie.Need-mul-z Inv-loop μ-loop
 mul-z c = search counts
 
--- src/writer.rt:26:17
 shared-slice-read-z : tie.Need-shared-slice-read-z Inv-loop μ-loop
 shared-slice-read-z c = search counts
 
--- src/writer.rt:28:20
 sub-result : tie.Need-sub-result Inv-loop μ-loop
 sub-result c = search counts
 
--- src/writer.rt:28:13
 returns : tie.Need-returns Inv-loop μ-loop
 returns c = search counts
 
--- src/writer.rt:30:20
 add-next : tie.Need-add-next Inv-loop μ-loop
 add-next c = search counts
 
--- src/writer.rt:32:20
 sub-result-2 : tie.Need-sub-result-2 Inv-loop μ-loop
 sub-result-2 c = search counts
 
--- src/writer.rt:32:13
 returns-2 : tie.Need-returns-2 Inv-loop μ-loop
 returns-2 c = search counts
 
--- src/writer.rt:35:20
 sub-result-3 : tie.Need-sub-result-3 Inv-loop μ-loop
 sub-result-3 c = search counts
 
--- src/writer.rt:35:13
 returns-3 : tie.Need-returns-3 Inv-loop μ-loop
 returns-3 c = search counts
 
--- src/writer.rt:38:9
 add-i : tie.Need-add-i Inv-loop μ-loop
 add-i c = search counts
 
--- src/writer.rt:25:5
 loop-less : tie.Need-loop-less Inv-loop μ-loop
 loop-less c = search counts
 
--- src/writer.rt:25:5
 loop-again : tie.Need-loop-again Inv-loop μ-loop
 loop-again c = search counts
 
--- src/writer.rt:40:5
 sub-result-4 : tie.Need-sub-result-4 Inv-loop μ-loop
 sub-result-4 c = search counts
 
--- src/writer.rt:19:1
 returns-4 : tie.Need-returns-4 Inv-loop μ-loop
 returns-4 c = search counts
 

@@ -1,4 +1,4 @@
-use Rattle.apr1_write.proofs.WriteNeeds.{Sizing, sizes}
+use Rattle.apr1_write.proofs.PassNeeds.{Sizing, sizes}
 use lib.ListN.{length}
 use Prim.Native.Nat.{_-_}
 use Rattle.apr1_write.proofs.size.Statement.{statement}
@@ -15,95 +15,72 @@ Inv-loop offsets a i₀ x₀ pairs₀ bytes₀ i x pairs bytes = Sizing offsets 
 abbrev μ-loop : tie.MeasureT-loop
 μ-loop offsets a i₀ x₀ pairs₀ bytes₀ i x pairs bytes = length offsets - i
 
--- src/writer.rt:75:13
 shared-slice-read-a : tie.Need-shared-slice-read-a Inv-loop μ-loop
 shared-slice-read-a c = search sizes
 
--- src/writer.rt:77:9
 returns : tie.Need-returns Inv-loop μ-loop
 returns c = search sizes
 
--- src/writer.rt:83:5
 loop-holds : tie.Need-loop-holds Inv-loop μ-loop
 loop-holds c = search sizes
 
--- src/writer.rt:84:17
 mul-y : tie.Need-mul-y Inv-loop μ-loop
 mul-y c = search sizes
 
--- src/writer.rt:84:17
 shared-slice-read-y : tie.Need-shared-slice-read-y Inv-loop μ-loop
 shared-slice-read-y c = search sizes
 
--- src/writer.rt:86:13
 returns-2 : tie.Need-returns-2 Inv-loop μ-loop
 returns-2 c = search sizes
 
--- src/writer.rt:89:13
 returns-3 : tie.Need-returns-3 Inv-loop μ-loop
 returns-3 c = search sizes
 
--- src/writer.rt:91:17
 sub-d : tie.Need-sub-d Inv-loop μ-loop
 sub-d c = search sizes
 
--- src/writer.rt:92:35
 add-run-from : tie.Need-add-run-from Inv-loop μ-loop
 add-run-from c = search sizes
 
--- src/writer.rt:92:13
 run-from-requires : tie.Need-run-from-requires Inv-loop μ-loop
 run-from-requires c κs = search sizes
 
--- src/writer.rt:93:27
 add-pair-len : tie.Need-add-pair-len Inv-loop μ-loop
 add-pair-len c = search sizes
 
--- src/writer.rt:93:18
 pair-len-requires : tie.Need-pair-len-requires Inv-loop μ-loop
 pair-len-requires c κs = search sizes
 
--- src/writer.rt:93:9
 add-bytes : tie.Need-add-bytes Inv-loop μ-loop
 add-bytes c = search sizes
 
--- src/writer.rt:94:9
 add-pairs : tie.Need-add-pairs Inv-loop μ-loop
 add-pairs c = search sizes
 
--- src/writer.rt:95:17
 mul-x : tie.Need-mul-x Inv-loop μ-loop
 mul-x c = search sizes
 
--- src/writer.rt:95:13
 add-x : tie.Need-add-x Inv-loop μ-loop
 add-x c = search sizes
 
--- src/writer.rt:96:13
 add-i : tie.Need-add-i Inv-loop μ-loop
 add-i c = search sizes
 
--- src/writer.rt:96:13
 add-i-2 : tie.Need-add-i-2 Inv-loop μ-loop
 add-i-2 c = search sizes
 
--- src/writer.rt:83:5
 loop-less : tie.Need-loop-less Inv-loop μ-loop
 loop-less c = search sizes
 
--- src/writer.rt:83:5
 loop-again : tie.Need-loop-again Inv-loop μ-loop
 loop-again c = search sizes
 
--- src/writer.rt:98:26
 head-len-requires : tie.Need-head-len-requires Inv-loop μ-loop
 head-len-requires c κs = search sizes
 
--- src/writer.rt:98:26
 add-t24 : tie.Need-add-t24 Inv-loop μ-loop
 add-t24 c = search sizes
 
--- src/writer.rt:71:1
 returns-4 : tie.Need-returns-4 Inv-loop μ-loop
 returns-4 c = search sizes
 

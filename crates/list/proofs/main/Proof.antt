@@ -16,43 +16,33 @@ use Rattle.listing.proofs.list.Reads as list-reads
 room : (c : tie.After-text2) → textRoom ≤ length (c .before .list .last .1 .0)
 room c = omega (arith, c .text2 .given)
 
--- src/main.rt:7:44
 slice-aggregate-read-full : tie.Need-slice-aggregate-read-full
 slice-aggregate-read-full c = search needs
 
--- src/main.rt:7:9
 read-full-requires : tie.Need-read-full-requires
 read-full-requires c κs = search needs
 
--- src/main.rt:9:32
 array-share-prefix-input : tie.Need-array-share-prefix-input
 array-share-prefix-input c = search needs
 
--- src/main.rt:9:32
 slice-aggregate-list : tie.Need-slice-aggregate-list
 slice-aggregate-list c = search needs
 
--- src/main.rt:9:48
 slice-aggregate-list-2 : tie.Need-slice-aggregate-list-2
 slice-aggregate-list-2 c = search needs
 
--- src/main.rt:9:9
 list-requires : tie.Need-list-requires
 list-requires c κs = search needs
 
--- src/main.rt:11:34
 array-share-prefix-text : tie.Need-array-share-prefix-text
 array-share-prefix-text c = lists-within (c .before .list .ensures) (room c)
 
--- src/main.rt:11:34
 slice-aggregate-write-all : tie.Need-slice-aggregate-write-all
 slice-aggregate-write-all c = lists-part (c .before .before .list .ensures) (room (c .before))
 
--- src/main.rt:11:5
 write-all-requires : tie.Need-write-all-requires
 write-all-requires c κs = search needs
 
--- src/main.rt:5:1
 returns : tie.Need-returns
 returns c = search needs
 

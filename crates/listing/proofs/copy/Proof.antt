@@ -13,47 +13,36 @@ Inv-loop page count text₀ i₀ text i = Copying page text₀ text count i
 abbrev μ-loop : tie.MeasureT-loop
 μ-loop page count text₀ i₀ text i = count - i
 
--- src/lib.rt:22:9
 short-of-requires : tie.Need-short-of-requires Inv-loop μ-loop
 short-of-requires c κs = search copies
 
--- src/lib.rt:22:9
 returns : tie.Need-returns Inv-loop μ-loop
 returns c = search copies
 
--- src/lib.rt:25:5
 loop-holds : tie.Need-loop-holds Inv-loop μ-loop
 loop-holds c = search copies
 
--- src/lib.rt:26:19
 shared-slice-read-text : tie.Need-shared-slice-read-text Inv-loop μ-loop
 shared-slice-read-text c = search copies
 
--- src/lib.rt:26:9
 slice-write-text : tie.Need-slice-write-text Inv-loop μ-loop
 slice-write-text c = search copies
 
--- src/lib.rt:27:9
 add-i : tie.Need-add-i Inv-loop μ-loop
 add-i c = search copies
 
--- src/lib.rt:25:5
 loop-less : tie.Need-loop-less Inv-loop μ-loop
 loop-less c = search copies
 
--- src/lib.rt:25:5
 loop-again : tie.Need-loop-again Inv-loop μ-loop
 loop-again c = search copies
 
--- src/lib.rt:29:5
 accept-requires : tie.Need-accept-requires Inv-loop μ-loop
 accept-requires c κs = search copies
 
--- src/lib.rt:17:1
 same-length : tie.Need-same-length Inv-loop μ-loop
 same-length c = search copies
 
--- src/lib.rt:17:1
 returns-2 : tie.Need-returns-2 Inv-loop μ-loop
 returns-2 c = search copies
 

@@ -12,7 +12,7 @@ use lib.Dec.{ltb, leb}
 use lib.IntN.{ℤ, pos, negsuc}
 use borrow.Author.Tests.{lt-ltb, le-ltb, le-leb, lt-leb}
 use Rattle.answer.specs.declared.Refusal.the-variants.{Room}
-use Rattle.answer.specs.Outcome.{numberOf, Outcome, accepted, refused, pick, success, refusal, noRoom, answerIn}
+use Rattle.answer.specs.Outcome.{numberOf, Outcome, accepted, refused, success, refusal, noRoom, answerIn}
 use Rattle.relleb_table.specs.Table.{Row}
 use Rattle.listing.specs.declared.kind.Kind.{Kind}
 use Rattle.listing.specs.declared.kind.Line.{Line}
@@ -151,8 +151,8 @@ module _ (k : Kind) where
   unfolding printed answerIn success noRoom refusal
   printed-refusal (accepted l) n = go (leb (length l) recordLimit) n
     where
-      go : (t : Bool) → (pick t (success (length l)) (noRoom (length l)) .number ≡ 0 → ⊥)
-          → pick t (header ++ rowsFrom k 0 l) (refusalText (numberOf Room) 0) ≡ refusalText (pick t (success (length l)) (noRoom (length l)) .number) (pick t (success (length l)) (noRoom (length l)) .place)
+      go : (t : Bool) → (cond t (success (length l)) (noRoom (length l)) .number ≡ 0 → ⊥)
+          → cond t (header ++ rowsFrom k 0 l) (refusalText (numberOf Room) 0) ≡ refusalText (cond t (success (length l)) (noRoom (length l)) .number) (cond t (success (length l)) (noRoom (length l)) .place)
       go true n = absurd (n refl)
       go false n = refl
   printed-refusal (refused why p) n = refl

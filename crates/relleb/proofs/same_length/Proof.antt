@@ -2,15 +2,12 @@ use Rattle.relleb_table.specs.Contract.Laws.{evens}
 use Rattle.relleb.proofs.same_length.Statement.{statement}
 use Rattle.relleb.proofs.same_length.Tie as tie
 
--- src/lib.rt:17:9
 returns : tie.Need-returns
 returns c = search evens
 
--- src/lib.rt:20:9
 returns-2 : tie.Need-returns-2
 returns-2 c = search evens
 
--- src/lib.rt:13:1
 returns-3 : tie.Need-returns-3
 returns-3 c = search evens
 

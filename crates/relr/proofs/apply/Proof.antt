@@ -1,4 +1,4 @@
-use Rattle.relr_apply.proofs.ApplyNeeds.{applies}
+use Rattle.relr_table.specs.Contract.Laws.{applies}
 use borrow.Author.Needs.{needs}
 use Rattle.relr.proofs.apply.Statement.{statement}
 use Rattle.relr.proofs.apply.Tie as tie
@@ -8,35 +8,27 @@ use Rattle.answer.proofs.refuse.Reads as refuse-reads
 use Rattle.relr_apply.proofs.apply_class.Reads as apply-class-reads
 use Rattle.word.proofs.Class.named.Reads as named-reads
 
--- src/lib.rt:28:9
 named-requires : tie.Need-named-requires
 named-requires c κs = search needs
 
--- src/lib.rt:29:19
 enum-known-named : tie.Need-enum-known-named
 enum-known-named c = search needs
 
--- src/lib.rt:30:31
 enum-told : tie.Need-enum-told
 enum-told c = search needs
 
--- src/lib.rt:30:9
 refuse-requires : tie.Need-refuse-requires
 refuse-requires c κs = search needs
 
--- src/lib.rt:30:9
 returns : tie.Need-returns
 returns c = search applies
 
--- src/lib.rt:32:5
 apply-class-requires : tie.Need-apply-class-requires
 apply-class-requires c κs = search needs
 
--- src/lib.rt:25:1
 same-length : tie.Need-same-length
 same-length c = search needs
 
--- src/lib.rt:25:1
 returns-2 : tie.Need-returns-2
 returns-2 c = search applies
 

@@ -1,4 +1,4 @@
-use Rattle.relr_apply.proofs.ApplyNeeds.{Patching, patchings}
+use Rattle.relr_apply.proofs.PassNeeds.{Patching, patchings}
 use mathlib.Core.Logic.{⊎-elim}
 use Rattle.relr_apply.proofs.patch_marks.Statement.{statement}
 use Rattle.relr_apply.proofs.patch_marks.Tie as tie
@@ -13,43 +13,33 @@ Inv-loop k image₀ base start set bits₀ d₀ image bits d = Patching k image�
 abbrev μ-loop : tie.MeasureT-loop
 μ-loop k image₀ base start set bits₀ d₀ image bits d = bits
 
--- src/applier.rt:36:5
 loop-holds : tie.Need-loop-holds Inv-loop μ-loop
 loop-holds c = search patchings
 
--- src/applier.rt:38:37
 add-add-at : tie.Need-add-add-at Inv-loop μ-loop
 add-add-at c = search patchings
 
--- src/applier.rt:38:13
 add-at-requires : tie.Need-add-at-requires Inv-loop μ-loop
 add-at-requires c κs = search patchings
 
--- src/applier.rt:41:14
 bytes-requires : tie.Need-bytes-requires Inv-loop μ-loop
 bytes-requires c κs = search patchings
 
--- src/applier.rt:41:14
 cast-d : tie.Need-cast-d Inv-loop μ-loop
 cast-d c = search patchings
 
--- src/applier.rt:41:9
 add-d : tie.Need-add-d Inv-loop μ-loop
 add-d c = search patchings
 
--- src/applier.rt:36:5
 loop-less : tie.Need-loop-less Inv-loop μ-loop
 loop-less c = search patchings
 
--- src/applier.rt:36:5
 loop-again : tie.Need-loop-again Inv-loop μ-loop
 loop-again c = ⊎-elim (λ w. rw (w .5) (search patchings)) (λ w. rw (w .1) (search patchings)) (c .before .if1 .came)
 
--- src/applier.rt:30:1
 same-length : tie.Need-same-length Inv-loop μ-loop
 same-length c = search patchings
 
--- src/applier.rt:30:1
 returns : tie.Need-returns Inv-loop μ-loop
 returns c = search patchings
 

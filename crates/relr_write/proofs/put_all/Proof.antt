@@ -1,4 +1,4 @@
-use Rattle.relr_write.proofs.PutNeeds.{names}
+use Rattle.relr_write.proofs.PassNeeds.{names}
 use borrow.Author.Needs.{needs}
 use Rattle.relr_write.proofs.put_all.Statement.{statement}
 use Rattle.relr_write.proofs.put_all.Tie as tie
@@ -6,35 +6,27 @@ use Rattle.relr_write.proofs.put_all.Reads as reads
 use Rattle.relr_write.proofs.put_all.Lts as lts
 use Rattle.relr_write.proofs.put_by.Reads as put-by-reads
 
--- src/lib.rt:170:47
 enum-told : tie.Need-enum-told
 enum-told c = search needs
 
--- src/lib.rt:170:24
 put-by-requires : tie.Need-put-by-requires
 put-by-requires c κs = search names
 
--- src/lib.rt:171:47
 enum-told-2 : tie.Need-enum-told-2
 enum-told-2 c = search needs
 
--- src/lib.rt:171:25
 put-by-requires-2 : tie.Need-put-by-requires-2
 put-by-requires-2 c κs = search names
 
--- src/lib.rt:165:1
 same-length : tie.Need-same-length
 same-length c = search needs
 
--- src/lib.rt:165:1
 returns : tie.Need-returns
 returns c = search names
 
--- src/lib.rt:165:1
 same-length-2 : tie.Need-same-length-2
 same-length-2 c = search needs
 
--- src/lib.rt:165:1
 returns-2 : tie.Need-returns-2
 returns-2 c = search names
 

@@ -1,4 +1,4 @@
-use Rattle.relr_write.proofs.PutNeeds.{names}
+use Rattle.relr_write.proofs.PassNeeds.{names}
 use borrow.Author.Needs.{needs}
 use Rattle.relr_write.proofs.put_by.Statement.{statement}
 use Rattle.relr_write.proofs.put_by.Tie as tie
@@ -7,19 +7,15 @@ use Rattle.relr_write.proofs.put_by.Lts as lts
 use Rattle.relr_table.proofs.place.chosen.Reads as chosen-reads
 use Rattle.relr_write.proofs.put.Reads as put-reads
 
--- src/lib.rt:162:9
 chosen-requires : tie.Need-chosen-requires
 chosen-requires c κs = search needs
 
--- src/lib.rt:162:5
 put-requires : tie.Need-put-requires
 put-requires c κs = search names
 
--- src/lib.rt:158:1
 same-length : tie.Need-same-length
 same-length c = search needs
 
--- src/lib.rt:158:1
 returns : tie.Need-returns
 returns c = search names
 

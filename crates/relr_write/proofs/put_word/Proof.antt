@@ -1,4 +1,4 @@
-use Rattle.relr_write.proofs.PutNeeds.{stores}
+use Rattle.relr_write.proofs.PassNeeds.{stores}
 use borrow.Author.Needs.{needs}
 use Rattle.relr_write.proofs.put_word.Statement.{statement}
 use Rattle.relr_write.proofs.put_word.Tie as tie
@@ -7,27 +7,21 @@ use Rattle.relr_write.proofs.put_word.Lts as lts
 use Rattle.word.proofs.Class.bytes.Reads as bytes-reads
 use Rattle.word.proofs.store.Reads as store-reads
 
--- src/writer.rt:90:5
 store-requires : tie.Need-store-requires
 store-requires c κs = search needs
 
--- src/writer.rt:91:11
 bytes-requires : tie.Need-bytes-requires
 bytes-requires c κs = search needs
 
--- src/writer.rt:91:11
 cast-result : tie.Need-cast-result
 cast-result c = search needs
 
--- src/writer.rt:91:5
 add-result : tie.Need-add-result
 add-result c = search needs
 
--- src/writer.rt:86:1
 same-length : tie.Need-same-length
 same-length c = search needs
 
--- src/writer.rt:86:1
 returns : tie.Need-returns
 returns c = search stores
 

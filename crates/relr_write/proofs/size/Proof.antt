@@ -1,6 +1,6 @@
 use lib.ListN.{length}
 use Prim.Native.Nat.{_+_, _-_, _*_, _≤_}
-use Rattle.relr_write.proofs.WriteNeeds.{Sizing, sizings}
+use Rattle.relr_write.proofs.PassNeeds.{Sizing, sizings}
 use Rattle.relr_write.proofs.size.Statement.{statement}
 use Rattle.relr_write.proofs.size.Tie as tie
 use Rattle.relr_write.proofs.size.Reads as reads
@@ -15,115 +15,87 @@ Inv-loop k offsets n i₀ least₀ place₀ bits₀ words₀ i least place bits 
 abbrev μ-loop : tie.MeasureT-loop
 μ-loop k offsets n i₀ least₀ place₀ bits₀ words₀ i least place bits words = 2 * (n - i) + bits
 
--- src/lib.rt:54:5
 loop-holds : tie.Need-loop-holds Inv-loop μ-loop
 loop-holds c = search sizings
 
--- src/lib.rt:55:17
 mul-x : tie.Need-mul-x Inv-loop μ-loop
 mul-x c = search sizings
 
--- src/lib.rt:55:17
 shared-slice-read-x : tie.Need-shared-slice-read-x Inv-loop μ-loop
 shared-slice-read-x c = search sizings
 
--- src/lib.rt:56:13
 faulty-requires : tie.Need-faulty-requires Inv-loop μ-loop
 faulty-requires c κs = search sizings
 
--- src/lib.rt:58:24
 enum-known-found : tie.Need-enum-known-found Inv-loop μ-loop
 enum-known-found c = search sizings
 
--- src/lib.rt:59:17
 returns : tie.Need-returns Inv-loop μ-loop
 returns c = search sizings
 
--- src/lib.rt:62:46
 enum-told : tie.Need-enum-told Inv-loop μ-loop
 enum-told c = search sizings
 
--- src/lib.rt:62:21
 pack-requires : tie.Need-pack-requires Inv-loop μ-loop
 pack-requires c κs = search sizings
 
--- src/lib.rt:65:25
 enum-told-2 : tie.Need-enum-told-2 Inv-loop μ-loop
 enum-told-2 c = search sizings
 
--- src/lib.rt:66:33
 add-least : tie.Need-add-least Inv-loop μ-loop
 add-least c = search sizings
 
--- src/lib.rt:67:25
 add-i : tie.Need-add-i Inv-loop μ-loop
 add-i c = search sizings
 
--- src/lib.rt:54:5
 loop-less : tie.Need-loop-less Inv-loop μ-loop
 loop-less c = search sizings
 
--- src/lib.rt:54:5
 loop-again : tie.Need-loop-again Inv-loop μ-loop
 loop-again c = search sizings
 
--- src/lib.rt:69:40
 enum-known-packed : tie.Need-enum-known-packed Inv-loop μ-loop
 enum-known-packed c = search sizings
 
--- src/lib.rt:72:25
 add-words : tie.Need-add-words Inv-loop μ-loop
 add-words c = search sizings
 
--- src/lib.rt:54:5
 loop-less-2 : tie.Need-loop-less-2 Inv-loop μ-loop
 loop-less-2 c = search sizings
 
--- src/lib.rt:54:5
 loop-again-2 : tie.Need-loop-again-2 Inv-loop μ-loop
 loop-again-2 c = (search (c .before .before .before .before .before .before .before .before .before .loop .inv .0, c .before .before .before .before .before .before .faulty .ensures, c .before .before .before .pack .ensures, sizings), search sizings)
 
--- src/lib.rt:74:35
 enum-known-packed-2 : tie.Need-enum-known-packed-2 Inv-loop μ-loop
 enum-known-packed-2 c = search sizings
 
--- src/lib.rt:76:25
 add-words-2 : tie.Need-add-words-2 Inv-loop μ-loop
 add-words-2 c = search sizings
 
--- src/lib.rt:77:33
 add-least-2 : tie.Need-add-least-2 Inv-loop μ-loop
 add-least-2 c = search sizings
 
--- src/lib.rt:78:25
 add-i-2 : tie.Need-add-i-2 Inv-loop μ-loop
 add-i-2 c = search sizings
 
--- src/lib.rt:54:5
 loop-less-3 : tie.Need-loop-less-3 Inv-loop μ-loop
 loop-less-3 c = search sizings
 
--- src/lib.rt:54:5
 loop-again-3 : tie.Need-loop-again-3 Inv-loop μ-loop
 loop-again-3 c = (search sizings, search sizings)
 
--- src/lib.rt:84:19
 add-t21 : tie.Need-add-t21 Inv-loop μ-loop
 add-t21 c = search sizings
 
--- src/lib.rt:84:36
 bytes-requires : tie.Need-bytes-requires Inv-loop μ-loop
 bytes-requires c κs = search sizings
 
--- src/lib.rt:84:36
 cast-t23 : tie.Need-cast-t23 Inv-loop μ-loop
 cast-t23 c = search sizings
 
--- src/lib.rt:84:18
 mul-t24 : tie.Need-mul-t24 Inv-loop μ-loop
 mul-t24 c = search sizings
 
--- src/lib.rt:44:1
 returns-2 : tie.Need-returns-2 Inv-loop μ-loop
 returns-2 c = search sizings
 

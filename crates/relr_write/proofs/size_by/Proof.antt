@@ -1,4 +1,4 @@
-use Rattle.relr_write.proofs.PutNeeds.{names}
+use Rattle.relr_write.proofs.PassNeeds.{names}
 use borrow.Author.Needs.{needs}
 use Rattle.relr_write.proofs.size_by.Statement.{statement}
 use Rattle.relr_write.proofs.size_by.Tie as tie
@@ -7,15 +7,12 @@ use Rattle.relr_write.proofs.size_by.Lts as lts
 use Rattle.relr_table.proofs.place.chosen.Reads as chosen-reads
 use Rattle.relr_write.proofs.size.Reads as size-reads
 
--- src/lib.rt:92:10
 chosen-requires : tie.Need-chosen-requires
 chosen-requires c κs = search needs
 
--- src/lib.rt:92:5
 size-requires : tie.Need-size-requires
 size-requires c κs = search needs
 
--- src/lib.rt:88:1
 returns : tie.Need-returns
 returns c = search names
 

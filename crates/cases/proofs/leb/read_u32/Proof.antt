@@ -6,27 +6,21 @@ use Rattle.cases.proofs.leb.read_u32.Reads as reads
 use Rattle.cases.proofs.leb.read_u32.Lts as lts
 use Rattle.leb128.proofs.read_unsigned.Reads as read-unsigned-reads
 
--- src/leb.rt:23:11
 read-unsigned-requires : tie.Need-read-unsigned-requires
 read-unsigned-requires c κs = search needs
 
--- src/leb.rt:24:25
 enum-known-v : tie.Need-enum-known-v
 enum-known-v c = search needs
 
--- src/leb.rt:24:49
 cast-t9 : tie.Need-cast-t9
 cast-t9 c = search pairs
 
--- src/leb.rt:25:27
 enum-known-why : tie.Need-enum-known-why
 enum-known-why c = search needs
 
--- src/leb.rt:20:1
 returns : tie.Need-returns
 returns c = search pairs
 
--- src/leb.rt:20:1
 returns-2 : tie.Need-returns-2
 returns-2 c = search pairs
 

@@ -7,19 +7,15 @@ use Rattle.cases.proofs.leb.write_pair.Lts as lts
 use Rattle.leb128.proofs.write_signed.Reads as write-signed-reads
 use Rattle.leb128.proofs.write_unsigned.Reads as write-unsigned-reads
 
--- src/leb.rt:34:9
 write-unsigned-requires : tie.Need-write-unsigned-requires
 write-unsigned-requires c κs = search pairs
 
--- src/leb.rt:35:5
 write-signed-requires : tie.Need-write-signed-requires
 write-signed-requires c κs = search pairs
 
--- src/leb.rt:30:1
 same-length : tie.Need-same-length
 same-length c = search needs
 
--- src/leb.rt:30:1
 returns : tie.Need-returns
 returns c = search pairs
 

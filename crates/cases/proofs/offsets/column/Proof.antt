@@ -14,43 +14,33 @@ Inv-loop values i₀ t3 i = i ≤ length values
 abbrev μ-loop : tie.MeasureT-loop
 μ-loop values i₀ t3 i = length values - i
 
--- src/offsets.rt:16:5
 loop-holds : tie.Need-loop-holds Inv-loop μ-loop
 loop-holds c = search needs
 
--- src/offsets.rt:17:20
 mul-item : tie.Need-mul-item Inv-loop μ-loop
 mul-item c = search needs
 
--- src/offsets.rt:17:20
 shared-slice-read-item : tie.Need-shared-slice-read-item Inv-loop μ-loop
 shared-slice-read-item c = search needs
 
--- src/offsets.rt:17:9
 item-requires : tie.Need-item-requires Inv-loop μ-loop
 item-requires c κs = search needs
 
--- src/offsets.rt:18:9
 add-i : tie.Need-add-i Inv-loop μ-loop
 add-i c = search needs
 
--- src/offsets.rt:16:5
 loop-less : tie.Need-loop-less Inv-loop μ-loop
 loop-less c = search needs
 
--- src/offsets.rt:16:5
 loop-again : tie.Need-loop-again Inv-loop μ-loop
 loop-again c = search needs
 
--- src/offsets.rt:20:15
 slice-aggregate-put : tie.Need-slice-aggregate-put Inv-loop μ-loop
 slice-aggregate-put c = search needs
 
--- src/offsets.rt:20:5
 put-requires : tie.Need-put-requires Inv-loop μ-loop
 put-requires c κs = search needs
 
--- src/offsets.rt:14:1
 returns : tie.Need-returns Inv-loop μ-loop
 returns c = search needs
 

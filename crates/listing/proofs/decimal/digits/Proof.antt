@@ -10,23 +10,18 @@ Inv-loop x n₀ rest₀ n rest = Counting x n rest
 abbrev μ-loop : tie.MeasureT-loop
 μ-loop x n₀ rest₀ n rest = rest
 
--- src/decimal.rt:15:5
 loop-holds : tie.Need-loop-holds Inv-loop μ-loop
 loop-holds c = search counts
 
--- src/decimal.rt:17:9
 add-n : tie.Need-add-n Inv-loop μ-loop
 add-n c = search counts
 
--- src/decimal.rt:15:5
 loop-less : tie.Need-loop-less Inv-loop μ-loop
 loop-less c = search counts
 
--- src/decimal.rt:15:5
 loop-again : tie.Need-loop-again Inv-loop μ-loop
 loop-again c = search counts
 
--- src/decimal.rt:10:1
 returns : tie.Need-returns Inv-loop μ-loop
 returns c = search counts
 

@@ -11,63 +11,48 @@ Inv-loop page₀ at x next k₀ m₀ page k m = Writing page₀ page at x k m
 abbrev μ-loop : tie.MeasureT-loop
 μ-loop page₀ at x next k₀ m₀ page k m = m
 
--- src/decimal.rt:27:21
 digits-requires : tie.Need-digits-requires Inv-loop μ-loop
 digits-requires c κs = search writings
 
--- src/decimal.rt:27:16
 add-next : tie.Need-add-next Inv-loop μ-loop
 add-next c = search writings
 
--- src/decimal.rt:30:5
 loop-holds : tie.Need-loop-holds Inv-loop μ-loop
 loop-holds c = search writings
 
--- src/decimal.rt:31:9
 sub-k : tie.Need-sub-k Inv-loop μ-loop
 sub-k c = search writings
 
--- src/decimal.rt:32:20
 add-page : tie.Need-add-page Inv-loop μ-loop
 add-page c = search writings
 
--- src/decimal.rt:32:19
 cast-page : tie.Need-cast-page Inv-loop μ-loop
 cast-page c = search writings
 
--- src/decimal.rt:32:9
 slice-write-page : tie.Need-slice-write-page Inv-loop μ-loop
 slice-write-page c = search writings
 
--- src/decimal.rt:30:5
 loop-less : tie.Need-loop-less Inv-loop μ-loop
 loop-less c = search writings
 
--- src/decimal.rt:30:5
 loop-again : tie.Need-loop-again Inv-loop μ-loop
 loop-again c = search writings
 
--- src/decimal.rt:35:20
 add-page-2 : tie.Need-add-page-2 Inv-loop μ-loop
 add-page-2 c = search writings
 
--- src/decimal.rt:35:19
 cast-page-2 : tie.Need-cast-page-2 Inv-loop μ-loop
 cast-page-2 c = search writings
 
--- src/decimal.rt:35:10
 sub-page : tie.Need-sub-page Inv-loop μ-loop
 sub-page c = search writings
 
--- src/decimal.rt:35:5
 slice-write-page-2 : tie.Need-slice-write-page-2 Inv-loop μ-loop
 slice-write-page-2 c = search writings
 
--- src/decimal.rt:23:1
 same-length : tie.Need-same-length Inv-loop μ-loop
 same-length c = search writings
 
--- src/decimal.rt:23:1
 returns : tie.Need-returns Inv-loop μ-loop
 returns c = search writings
 

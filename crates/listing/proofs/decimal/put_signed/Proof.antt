@@ -9,43 +9,33 @@ use Rattle.leb128.proofs.magnitude.Reads as magnitude-reads
 use Rattle.listing.proofs.decimal.put_number.Reads as put-number-reads
 use Rattle.listing.proofs.page.put_byte.Reads as put-byte-reads
 
--- src/decimal.rt:43:9
 magnitude-requires : tie.Need-magnitude-requires
 magnitude-requires c κs = search needs
 
--- src/decimal.rt:44:8
 is-negative-requires : tie.Need-is-negative-requires
 is-negative-requires c κs = search needs
 
--- src/decimal.rt:45:13
 put-byte-requires : tie.Need-put-byte-requires
 put-byte-requires c κs = search needs
 
--- src/decimal.rt:46:39
 add-put-number : tie.Need-add-put-number
 add-put-number c = search needs
 
--- src/decimal.rt:46:9
 put-number-requires : tie.Need-put-number-requires
 put-number-requires c κs = search needs
 
--- src/decimal.rt:46:9
 same-length : tie.Need-same-length
 same-length c = search needs
 
--- src/decimal.rt:46:9
 returns : tie.Need-returns
 returns c = search signs
 
--- src/decimal.rt:48:5
 put-number-requires-2 : tie.Need-put-number-requires-2
 put-number-requires-2 c κs = search needs
 
--- src/decimal.rt:39:1
 same-length-2 : tie.Need-same-length-2
 same-length-2 c = search needs
 
--- src/decimal.rt:39:1
 returns-2 : tie.Need-returns-2
 returns-2 c = search signs
 

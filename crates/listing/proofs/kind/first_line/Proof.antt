@@ -6,79 +6,60 @@ use Rattle.listing.proofs.kind.first_line.Reads as reads
 use Rattle.listing.proofs.kind.first_line.Lts as lts
 use Rattle.records.proofs.starts_with.Reads as starts-with-reads
 
--- src/kind.rt:69:36
 slice-aggregate-starts-with : tie.Need-slice-aggregate-starts-with
 slice-aggregate-starts-with c = search needs
 
--- src/kind.rt:69:8
 starts-with-requires : tie.Need-starts-with-requires
 starts-with-requires c κs = search needs
 
--- src/kind.rt:70:9
 returns : tie.Need-returns
 returns c = search lines
 
--- src/kind.rt:72:36
 slice-aggregate-starts-with-2 : tie.Need-slice-aggregate-starts-with-2
 slice-aggregate-starts-with-2 c = search needs
 
--- src/kind.rt:72:8
 starts-with-requires-2 : tie.Need-starts-with-requires-2
 starts-with-requires-2 c κs = search needs
 
--- src/kind.rt:73:9
 returns-2 : tie.Need-returns-2
 returns-2 c = search lines
 
--- src/kind.rt:75:36
 slice-aggregate-starts-with-3 : tie.Need-slice-aggregate-starts-with-3
 slice-aggregate-starts-with-3 c = search needs
 
--- src/kind.rt:75:8
 starts-with-requires-3 : tie.Need-starts-with-requires-3
 starts-with-requires-3 c κs = search needs
 
--- src/kind.rt:76:9
 returns-3 : tie.Need-returns-3
 returns-3 c = search lines
 
--- src/kind.rt:78:36
 slice-aggregate-starts-with-4 : tie.Need-slice-aggregate-starts-with-4
 slice-aggregate-starts-with-4 c = search needs
 
--- src/kind.rt:78:8
 starts-with-requires-4 : tie.Need-starts-with-requires-4
 starts-with-requires-4 c κs = search needs
 
--- src/kind.rt:79:9
 returns-4 : tie.Need-returns-4
 returns-4 c = search lines
 
--- src/kind.rt:81:36
 slice-aggregate-starts-with-5 : tie.Need-slice-aggregate-starts-with-5
 slice-aggregate-starts-with-5 c = search needs
 
--- src/kind.rt:81:8
 starts-with-requires-5 : tie.Need-starts-with-requires-5
 starts-with-requires-5 c κs = search needs
 
--- src/kind.rt:82:9
 returns-5 : tie.Need-returns-5
 returns-5 c = search lines
 
--- src/kind.rt:84:36
 slice-aggregate-starts-with-6 : tie.Need-slice-aggregate-starts-with-6
 slice-aggregate-starts-with-6 c = search needs
 
--- src/kind.rt:84:8
 starts-with-requires-6 : tie.Need-starts-with-requires-6
 starts-with-requires-6 c κs = search needs
 
--- src/kind.rt:85:9
 returns-6 : tie.Need-returns-6
 returns-6 c = search lines
 
--- src/kind.rt:66:1
 returns-7 : tie.Need-returns-7
 returns-7 c = search lines
 

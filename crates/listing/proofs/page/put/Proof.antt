@@ -12,43 +12,33 @@ Inv-loop page₀ at bytes i₀ page i = Putting bytes page₀ page at i
 abbrev μ-loop : tie.MeasureT-loop
 μ-loop page₀ at bytes i₀ page i = length bytes - i
 
--- src/page.rt:22:5
 loop-holds : tie.Need-loop-holds Inv-loop μ-loop
 loop-holds c = search puttings
 
--- src/page.rt:23:24
 shared-slice-read-page : tie.Need-shared-slice-read-page Inv-loop μ-loop
 shared-slice-read-page c = search puttings
 
--- src/page.rt:23:14
 add-page : tie.Need-add-page Inv-loop μ-loop
 add-page c = search puttings
 
--- src/page.rt:23:9
 slice-write-page : tie.Need-slice-write-page Inv-loop μ-loop
 slice-write-page c = search puttings
 
--- src/page.rt:24:9
 add-i : tie.Need-add-i Inv-loop μ-loop
 add-i c = search puttings
 
--- src/page.rt:22:5
 loop-less : tie.Need-loop-less Inv-loop μ-loop
 loop-less c = search puttings
 
--- src/page.rt:22:5
 loop-again : tie.Need-loop-again Inv-loop μ-loop
 loop-again c = search puttings
 
--- src/page.rt:26:5
 add-result : tie.Need-add-result Inv-loop μ-loop
 add-result c = search puttings
 
--- src/page.rt:17:1
 same-length : tie.Need-same-length Inv-loop μ-loop
 same-length c = search puttings
 
--- src/page.rt:17:1
 returns : tie.Need-returns Inv-loop μ-loop
 returns c = search puttings
 

@@ -7,31 +7,24 @@ use Rattle.listing.proofs.rows.put_addend.Lts as lts
 use Rattle.listing.proofs.decimal.put_signed.Reads as put-signed-reads
 use Rattle.listing.proofs.page.put_byte.Reads as put-byte-reads
 
--- src/rows.rt:30:9
 put-byte-requires : tie.Need-put-byte-requires
 put-byte-requires c κs = search needs
 
--- src/rows.rt:32:9
 put-signed-requires : tie.Need-put-signed-requires
 put-signed-requires c κs = search needs
 
--- src/rows.rt:32:9
 same-length : tie.Need-same-length
 same-length c = search needs
 
--- src/rows.rt:32:9
 returns : tie.Need-returns
 returns c = search fields
 
--- src/rows.rt:34:5
 put-byte-requires-2 : tie.Need-put-byte-requires-2
 put-byte-requires-2 c κs = search needs
 
--- src/rows.rt:26:1
 same-length-2 : tie.Need-same-length-2
 same-length-2 c = search needs
 
--- src/rows.rt:26:1
 returns-2 : tie.Need-returns-2
 returns-2 c = search fields
 

@@ -7,31 +7,24 @@ use Rattle.listing.proofs.rows.put_field.Lts as lts
 use Rattle.listing.proofs.decimal.put_number.Reads as put-number-reads
 use Rattle.listing.proofs.page.put_byte.Reads as put-byte-reads
 
--- src/rows.rt:18:9
 put-byte-requires : tie.Need-put-byte-requires
 put-byte-requires c κs = search needs
 
--- src/rows.rt:20:9
 put-number-requires : tie.Need-put-number-requires
 put-number-requires c κs = search needs
 
--- src/rows.rt:20:9
 same-length : tie.Need-same-length
 same-length c = search needs
 
--- src/rows.rt:20:9
 returns : tie.Need-returns
 returns c = search fields
 
--- src/rows.rt:22:5
 put-byte-requires-2 : tie.Need-put-byte-requires-2
 put-byte-requires-2 c κs = search needs
 
--- src/rows.rt:14:1
 same-length-2 : tie.Need-same-length-2
 same-length-2 c = search needs
 
--- src/rows.rt:14:1
 returns-2 : tie.Need-returns-2
 returns-2 c = search fields
 

@@ -7,23 +7,18 @@ use Rattle.listing.proofs.rows.put_list.Lts as lts
 use Rattle.listing.proofs.page.put.Reads as put-reads
 use Rattle.listing.proofs.rows.put_rows.Reads as put-rows-reads
 
--- src/rows.rt:100:39
 slice-aggregate-put : tie.Need-slice-aggregate-put
 slice-aggregate-put c = search needs
 
--- src/rows.rt:100:9
 put-requires : tie.Need-put-requires
 put-requires c κs = search needs
 
--- src/rows.rt:101:5
 put-rows-requires : tie.Need-put-rows-requires
 put-rows-requires c κs = search needs
 
--- src/rows.rt:88:1
 same-length : tie.Need-same-length
 same-length c = search needs
 
--- src/rows.rt:88:1
 returns : tie.Need-returns
 returns c = search lists
 

@@ -11,35 +11,27 @@ use Rattle.listing.proofs.rows.put_addend.Reads as put-addend-reads
 use Rattle.listing.proofs.rows.put_start.Reads as put-start-reads
 use Rattle.listing.proofs.rows.put_types.Reads as put-types-reads
 
--- src/rows.rt:69:9
 has-type-requires : tie.Need-has-type-requires
 has-type-requires c κs = search needs
 
--- src/rows.rt:70:9
 has-addend-requires : tie.Need-has-addend-requires
 has-addend-requires c κs = search needs
 
--- src/rows.rt:71:9
 put-start-requires : tie.Need-put-start-requires
 put-start-requires c κs = search needs
 
--- src/rows.rt:72:9
 put-types-requires : tie.Need-put-types-requires
 put-types-requires c κs = search needs
 
--- src/rows.rt:73:9
 put-addend-requires : tie.Need-put-addend-requires
 put-addend-requires c κs = search needs
 
--- src/rows.rt:74:5
 put-byte-requires : tie.Need-put-byte-requires
 put-byte-requires c κs = search needs
 
--- src/rows.rt:56:1
 same-length : tie.Need-same-length
 same-length c = search needs
 
--- src/rows.rt:56:1
 returns : tie.Need-returns
 returns c =
     let b = c .before .before in

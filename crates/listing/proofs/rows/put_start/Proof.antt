@@ -7,19 +7,15 @@ use Rattle.listing.proofs.rows.put_start.Lts as lts
 use Rattle.listing.proofs.decimal.put_number.Reads as put-number-reads
 use Rattle.listing.proofs.rows.put_field.Reads as put-field-reads
 
--- src/rows.rt:42:9
 put-number-requires : tie.Need-put-number-requires
 put-number-requires c κs = search needs
 
--- src/rows.rt:43:5
 put-field-requires : tie.Need-put-field-requires
 put-field-requires c κs = search needs
 
--- src/rows.rt:38:1
 same-length : tie.Need-same-length
 same-length c = search needs
 
--- src/rows.rt:38:1
 returns : tie.Need-returns
 returns c = search starts
 

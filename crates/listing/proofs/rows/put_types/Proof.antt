@@ -6,19 +6,15 @@ use Rattle.listing.proofs.rows.put_types.Reads as reads
 use Rattle.listing.proofs.rows.put_types.Lts as lts
 use Rattle.listing.proofs.rows.put_field.Reads as put-field-reads
 
--- src/rows.rt:51:9
 put-field-requires : tie.Need-put-field-requires
 put-field-requires c κs = search needs
 
--- src/rows.rt:52:5
 put-field-requires-2 : tie.Need-put-field-requires-2
 put-field-requires-2 c κs = search needs
 
--- src/rows.rt:47:1
 same-length : tie.Need-same-length
 same-length c = search needs
 
--- src/rows.rt:47:1
 returns : tie.Need-returns
 returns c = search types
 

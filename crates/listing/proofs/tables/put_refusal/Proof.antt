@@ -8,35 +8,27 @@ use Rattle.listing.proofs.decimal.put_number.Reads as put-number-reads
 use Rattle.listing.proofs.page.put.Reads as put-reads
 use Rattle.listing.proofs.page.put_byte.Reads as put-byte-reads
 
--- src/tables.rt:47:47
 slice-aggregate-put : tie.Need-slice-aggregate-put
 slice-aggregate-put c = search needs
 
--- src/tables.rt:47:9
 put-requires : tie.Need-put-requires
 put-requires c κs = search needs
 
--- src/tables.rt:48:9
 put-number-requires : tie.Need-put-number-requires
 put-number-requires c κs = search needs
 
--- src/tables.rt:49:9
 put-byte-requires : tie.Need-put-byte-requires
 put-byte-requires c κs = search needs
 
--- src/tables.rt:50:9
 put-number-requires-2 : tie.Need-put-number-requires-2
 put-number-requires-2 c κs = search needs
 
--- src/tables.rt:51:5
 put-byte-requires-2 : tie.Need-put-byte-requires-2
 put-byte-requires-2 c κs = search needs
 
--- src/tables.rt:43:1
 same-length : tie.Need-same-length
 same-length c = search needs
 
--- src/tables.rt:43:1
 returns : tie.Need-returns
 returns c =
     let e = c .before .before in

@@ -8,63 +8,48 @@ use Rattle.listing.proofs.rows.put_list.Reads as put-list-reads
 use Rattle.listing.proofs.tables.put_refusal.Reads as put-refusal-reads
 use Rattle.listing.proofs.tables.read.Reads as read-reads
 
--- src/tables.rt:63:36
 slice-aggregate-read : tie.Need-slice-aggregate-read
 slice-aggregate-read c = search needs
 
--- src/tables.rt:63:50
 slice-aggregate-read-2 : tie.Need-slice-aggregate-read-2
 slice-aggregate-read-2 c = search needs
 
--- src/tables.rt:63:62
 slice-aggregate-read-3 : tie.Need-slice-aggregate-read-3
 slice-aggregate-read-3 c = search needs
 
--- src/tables.rt:63:76
 slice-aggregate-read-4 : tie.Need-slice-aggregate-read-4
 slice-aggregate-read-4 c = search needs
 
--- src/tables.rt:63:9
 read-requires : tie.Need-read-requires
 read-requires c κs = search needs
 
--- src/tables.rt:66:9
 put-refusal-requires : tie.Need-put-refusal-requires
 put-refusal-requires c κs = search needs
 
--- src/tables.rt:66:9
 same-length : tie.Need-same-length
 same-length c = search needs
 
--- src/tables.rt:66:9
 returns : tie.Need-returns
 returns c = search tables
 
--- src/tables.rt:69:39
 slice-aggregate-put-list : tie.Need-slice-aggregate-put-list
 slice-aggregate-put-list c = search needs
 
--- src/tables.rt:69:49
 slice-aggregate-put-list-2 : tie.Need-slice-aggregate-put-list-2
 slice-aggregate-put-list-2 c = search needs
 
--- src/tables.rt:69:57
 slice-aggregate-put-list-3 : tie.Need-slice-aggregate-put-list-3
 slice-aggregate-put-list-3 c = search needs
 
--- src/tables.rt:69:67
 slice-aggregate-put-list-4 : tie.Need-slice-aggregate-put-list-4
 slice-aggregate-put-list-4 c = search needs
 
--- src/tables.rt:69:5
 put-list-requires : tie.Need-put-list-requires
 put-list-requires c κs = search tables
 
--- src/tables.rt:55:1
 same-length-2 : tie.Need-same-length-2
 same-length-2 c = search needs
 
--- src/tables.rt:55:1
 returns-2 : tie.Need-returns-2
 returns-2 c = search tables
 

@@ -1,4 +1,4 @@
-use Rattle.relr_write.proofs.PackNeeds.{packing}
+use Rattle.relr_write.proofs.EntryNeeds.{packing}
 use borrow.Author.Needs.{needs}
 use Rattle.relr_write.proofs.packer.pack.Statement.{statement}
 use Rattle.relr_write.proofs.packer.pack.Tie as tie
@@ -10,59 +10,45 @@ use Rattle.relr_write.proofs.packer.forward.Reads as forward-reads
 use Rattle.relr_write.proofs.packer.locate.Reads as locate-reads
 use Rattle.word.proofs.Class.bytes.Reads as bytes-reads
 
--- src/packer.rt:77:9
 locate-requires : tie.Need-locate-requires
 locate-requires c κs = search needs
 
--- src/packer.rt:79:22
 enum-known-location : tie.Need-enum-known-location
 enum-known-location c = search needs
 
--- src/packer.rt:81:28
 bit-requires : tie.Need-bit-requires
 bit-requires c κs = search packing
 
--- src/packer.rt:81:19
 add-t10 : tie.Need-add-t10
 add-t10 c = search packing
 
--- src/packer.rt:84:16
 enum-told : tie.Need-enum-told
 enum-told c = search needs
 
--- src/packer.rt:85:28
 mul-full : tie.Need-mul-full
 mul-full c = search needs
 
--- src/packer.rt:85:28
 add-full : tie.Need-add-full
 add-full c = search needs
 
--- src/packer.rt:89:32
 forward-requires : tie.Need-forward-requires
 forward-requires c κs = search needs
 
--- src/packer.rt:86:17
 returns : tie.Need-returns
 returns c = search packing
 
--- src/packer.rt:95:42
 bytes-requires : tie.Need-bytes-requires
 bytes-requires c κs = search needs
 
--- src/packer.rt:95:42
 cast-past : tie.Need-cast-past
 cast-past c = search needs
 
--- src/packer.rt:95:24
 past-requires : tie.Need-past-requires
 past-requires c κs = search needs
 
--- src/packer.rt:72:1
 returns-2 : tie.Need-returns-2
 returns-2 c = search packing
 
--- src/packer.rt:72:1
 returns-3 : tie.Need-returns-3
 returns-3 c = search packing
 

@@ -11,39 +11,30 @@ use Rattle.vectors.proofs.input.u32le.Reads as u32le-reads
 use Rattle.vectors.proofs.output.bytes.Reads as output-bytes-reads
 use Rattle.vectors.proofs.output.line.Reads as line-reads
 
--- src/calls.rt:106:27
 u32le-requires : tie.Need-u32le-requires
 u32le-requires c κs = search needs
 
--- src/calls.rt:106:9
 capped-requires : tie.Need-capped-requires
 capped-requires c κs = search needs
 
--- src/calls.rt:107:28
 array-borrow-prefix-space : tie.Need-array-borrow-prefix-space
 array-borrow-prefix-space c = search needs
 
--- src/calls.rt:107:9
 slice-aggregate-image : tie.Need-slice-aggregate-image
 slice-aggregate-image c = search parts
 
--- src/calls.rt:108:5
 bytes-requires : tie.Need-bytes-requires
 bytes-requires c κs = search needs
 
--- src/calls.rt:109:9
 apply-requires : tie.Need-apply-requires
 apply-requires c κs = search needs
 
--- src/calls.rt:110:21
 bytes-requires-2 : tie.Need-bytes-requires-2
 bytes-requires-2 c κs = search needs
 
--- src/calls.rt:110:5
 line-requires : tie.Need-line-requires
 line-requires c κs = search needs
 
--- src/calls.rt:104:1
 returns : tie.Need-returns
 returns c = search needs
 

@@ -15,95 +15,72 @@ use Rattle.vectors.proofs.output.column64.Reads as column64-reads
 use Rattle.vectors.proofs.output.line.Reads as line-reads
 use Rattle.vectors.proofs.output.signed_column.Reads as signed-column-reads
 
--- src/calls.rt:54:9
 capped-requires : tie.Need-capped-requires
 capped-requires c κs = search needs
 
--- src/calls.rt:55:31
 array-borrow-prefix-offset-space : tie.Need-array-borrow-prefix-offset-space
 array-borrow-prefix-offset-space c = search needs
 
--- src/calls.rt:55:9
 slice-aggregate-offsets : tie.Need-slice-aggregate-offsets
 slice-aggregate-offsets c = search parts
 
--- src/calls.rt:56:9
 capped-requires-2 : tie.Need-capped-requires-2
 capped-requires-2 c κs = search needs
 
--- src/calls.rt:57:29
 array-borrow-prefix-type-space : tie.Need-array-borrow-prefix-type-space
 array-borrow-prefix-type-space c = search needs
 
--- src/calls.rt:57:9
 slice-aggregate-types : tie.Need-slice-aggregate-types
 slice-aggregate-types c = search parts
 
--- src/calls.rt:58:9
 capped-requires-3 : tie.Need-capped-requires-3
 capped-requires-3 c κs = search needs
 
--- src/calls.rt:59:31
 array-borrow-prefix-symbol-space : tie.Need-array-borrow-prefix-symbol-space
 array-borrow-prefix-symbol-space c = search needs
 
--- src/calls.rt:59:9
 slice-aggregate-symbols : tie.Need-slice-aggregate-symbols
 slice-aggregate-symbols c = search parts
 
--- src/calls.rt:60:9
 capped-requires-4 : tie.Need-capped-requires-4
 capped-requires-4 c κs = search needs
 
--- src/calls.rt:61:31
 array-borrow-prefix-addend-space : tie.Need-array-borrow-prefix-addend-space
 array-borrow-prefix-addend-space c = search needs
 
--- src/calls.rt:61:9
 slice-aggregate-addends : tie.Need-slice-aggregate-addends
 slice-aggregate-addends c = search parts
 
--- src/calls.rt:62:5
 u32le-requires : tie.Need-u32le-requires
 u32le-requires c κs = search needs
 
--- src/calls.rt:64:22
 read-requires : tie.Need-read-requires
 read-requires c κs = search needs
 
--- src/calls.rt:65:22
 read-requires-2 : tie.Need-read-requires-2
 read-requires-2 c κs = search needs
 
--- src/calls.rt:66:22
 read-requires-3 : tie.Need-read-requires-3
 read-requires-3 c κs = search needs
 
--- src/calls.rt:67:14
 read-requires-4 : tie.Need-read-requires-4
 read-requires-4 c κs = search needs
 
--- src/calls.rt:69:9
 column64-requires : tie.Need-column64-requires
 column64-requires c κs = search needs
 
--- src/calls.rt:70:9
 column32-requires : tie.Need-column32-requires
 column32-requires c κs = search needs
 
--- src/calls.rt:71:9
 column32-requires-2 : tie.Need-column32-requires-2
 column32-requires-2 c κs = search needs
 
--- src/calls.rt:72:21
 signed-column-requires : tie.Need-signed-column-requires
 signed-column-requires c κs = search needs
 
--- src/calls.rt:72:5
 line-requires : tie.Need-line-requires
 line-requires c κs = search needs
 
--- src/calls.rt:49:1
 returns : tie.Need-returns
 returns c = search needs
 

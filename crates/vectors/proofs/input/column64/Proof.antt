@@ -14,39 +14,30 @@ Inv-loop column₀ i₀ column i = (i ≤ length column₀) × (length column �
 abbrev μ-loop : tie.MeasureT-loop
 μ-loop column₀ i₀ column i = length column₀ - i
 
--- src/input.rt:59:5
 loop-holds : tie.Need-loop-holds Inv-loop μ-loop
 loop-holds c = search needs
 
--- src/input.rt:60:21
 u64le-requires : tie.Need-u64le-requires Inv-loop μ-loop
 u64le-requires c κs = search needs
 
--- src/input.rt:60:9
 mul-column : tie.Need-mul-column Inv-loop μ-loop
 mul-column c = search needs
 
--- src/input.rt:60:9
 slice-write-column : tie.Need-slice-write-column Inv-loop μ-loop
 slice-write-column c = search needs
 
--- src/input.rt:61:9
 add-i : tie.Need-add-i Inv-loop μ-loop
 add-i c = search needs
 
--- src/input.rt:59:5
 loop-less : tie.Need-loop-less Inv-loop μ-loop
 loop-less c = search needs
 
--- src/input.rt:59:5
 loop-again : tie.Need-loop-again Inv-loop μ-loop
 loop-again c = search needs
 
--- src/input.rt:57:1
 same-length : tie.Need-same-length Inv-loop μ-loop
 same-length c = search needs
 
--- src/input.rt:57:1
 returns : tie.Need-returns Inv-loop μ-loop
 returns c = search needs
 

@@ -15,43 +15,33 @@ Inv-loop column₀ i₀ column i = (i ≤ length column₀) × (length column �
 abbrev μ-loop : tie.MeasureT-loop
 μ-loop column₀ i₀ column i = length column₀ - i
 
--- src/input.rt:75:5
 loop-holds : tie.Need-loop-holds Inv-loop μ-loop
 loop-holds c = search needs
 
--- src/input.rt:76:40
 u64le-requires : tie.Need-u64le-requires Inv-loop μ-loop
 u64le-requires c κs = search needs
 
--- src/input.rt:76:21
 distance-requires : tie.Need-distance-requires Inv-loop μ-loop
 distance-requires c κs = search needs
 
--- src/input.rt:76:9
 mul-t3 : tie.Need-mul-t3 Inv-loop μ-loop
 mul-t3 c = search needs
 
--- src/input.rt:76:9
 slice-set-from-column : tie.Need-slice-set-from-column Inv-loop μ-loop
 slice-set-from-column c = search needs
 
--- src/input.rt:77:9
 add-i : tie.Need-add-i Inv-loop μ-loop
 add-i c = search needs
 
--- src/input.rt:75:5
 loop-less : tie.Need-loop-less Inv-loop μ-loop
 loop-less c = search needs
 
--- src/input.rt:75:5
 loop-again : tie.Need-loop-again Inv-loop μ-loop
 loop-again c = search needs
 
--- src/input.rt:73:1
 same-length : tie.Need-same-length Inv-loop μ-loop
 same-length c = search needs
 
--- src/input.rt:73:1
 returns : tie.Need-returns Inv-loop μ-loop
 returns c = search needs
 

@@ -13,31 +13,24 @@ Inv-loop hash s h₀ i₀ h i = i ≤ length s
 abbrev μ-loop : tie.MeasureT-loop
 μ-loop hash s h₀ i₀ h i = length s - i
 
--- src/output.rt:20:5
 loop-holds : tie.Need-loop-holds Inv-loop μ-loop
 loop-holds c = search needs
 
--- src/output.rt:21:21
 shared-slice-read-byte : tie.Need-shared-slice-read-byte Inv-loop μ-loop
 shared-slice-read-byte c = search needs
 
--- src/output.rt:21:9
 byte-requires : tie.Need-byte-requires Inv-loop μ-loop
 byte-requires c κs = search needs
 
--- src/output.rt:22:9
 add-i : tie.Need-add-i Inv-loop μ-loop
 add-i c = search needs
 
--- src/output.rt:20:5
 loop-less : tie.Need-loop-less Inv-loop μ-loop
 loop-less c = search needs
 
--- src/output.rt:20:5
 loop-again : tie.Need-loop-again Inv-loop μ-loop
 loop-again c = search needs
 
--- src/output.rt:17:1
 returns : tie.Need-returns Inv-loop μ-loop
 returns c = search needs
 

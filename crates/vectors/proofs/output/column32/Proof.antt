@@ -14,39 +14,30 @@ Inv-loop hash column h₀ i₀ h i = i ≤ length column
 abbrev μ-loop : tie.MeasureT-loop
 μ-loop hash column h₀ i₀ h i = length column - i
 
--- src/output.rt:55:5
 loop-holds : tie.Need-loop-holds Inv-loop μ-loop
 loop-holds c = search needs
 
--- src/output.rt:56:29
 mul-widen : tie.Need-mul-widen Inv-loop μ-loop
 mul-widen c = search needs
 
--- src/output.rt:56:29
 shared-slice-read-widen : tie.Need-shared-slice-read-widen Inv-loop μ-loop
 shared-slice-read-widen c = search needs
 
--- src/output.rt:56:23
 widen-requires : tie.Need-widen-requires Inv-loop μ-loop
 widen-requires c κs = search needs
 
--- src/output.rt:56:9
 number-requires : tie.Need-number-requires Inv-loop μ-loop
 number-requires c κs = search needs
 
--- src/output.rt:57:9
 add-i : tie.Need-add-i Inv-loop μ-loop
 add-i c = search needs
 
--- src/output.rt:55:5
 loop-less : tie.Need-loop-less Inv-loop μ-loop
 loop-less c = search needs
 
--- src/output.rt:55:5
 loop-again : tie.Need-loop-again Inv-loop μ-loop
 loop-again c = search needs
 
--- src/output.rt:52:1
 returns : tie.Need-returns Inv-loop μ-loop
 returns c = search needs
 

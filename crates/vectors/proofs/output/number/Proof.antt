@@ -12,31 +12,24 @@ Inv-loop hash x size h₀ rest₀ -k₀ h rest -k = -k ≤ size
 abbrev μ-loop : tie.MeasureT-loop
 μ-loop hash x size h₀ rest₀ -k₀ h rest -k = size - -k
 
--- src/output.rt:31:5
 loop-holds : tie.Need-loop-holds Inv-loop μ-loop
 loop-holds c = search needs
 
--- src/output.rt:32:21
 cast-byte : tie.Need-cast-byte Inv-loop μ-loop
 cast-byte c = search needs
 
--- src/output.rt:32:9
 byte-requires : tie.Need-byte-requires Inv-loop μ-loop
 byte-requires c κs = search needs
 
--- src/output.rt:31:9
 add--k : tie.Need-add--k Inv-loop μ-loop
 add--k c = search needs
 
--- src/output.rt:31:5
 loop-less : tie.Need-loop-less Inv-loop μ-loop
 loop-less c = search needs
 
--- src/output.rt:31:5
 loop-again : tie.Need-loop-again Inv-loop μ-loop
 loop-again c = search needs
 
--- src/output.rt:28:1
 returns : tie.Need-returns Inv-loop μ-loop
 returns c = search needs
 

@@ -14,39 +14,30 @@ Inv-loop hash column h₀ i₀ h i = i ≤ length column
 abbrev μ-loop : tie.MeasureT-loop
 μ-loop hash column h₀ i₀ h i = length column - i
 
--- src/output.rt:61:5
 loop-holds : tie.Need-loop-holds Inv-loop μ-loop
 loop-holds c = search needs
 
--- src/output.rt:62:42
 mul-moved : tie.Need-mul-moved Inv-loop μ-loop
 mul-moved c = search needs
 
--- src/output.rt:62:42
 shared-slice-copy-out-moved : tie.Need-shared-slice-copy-out-moved Inv-loop μ-loop
 shared-slice-copy-out-moved c = search needs
 
--- src/output.rt:62:23
 moved-requires : tie.Need-moved-requires Inv-loop μ-loop
 moved-requires c κs = search needs
 
--- src/output.rt:62:9
 number-requires : tie.Need-number-requires Inv-loop μ-loop
 number-requires c κs = search needs
 
--- src/output.rt:63:9
 add-i : tie.Need-add-i Inv-loop μ-loop
 add-i c = search needs
 
--- src/output.rt:61:5
 loop-less : tie.Need-loop-less Inv-loop μ-loop
 loop-less c = search needs
 
--- src/output.rt:61:5
 loop-again : tie.Need-loop-again Inv-loop μ-loop
 loop-again c = search needs
 
--- src/output.rt:58:1
 returns : tie.Need-returns Inv-loop μ-loop
 returns c = search needs
 

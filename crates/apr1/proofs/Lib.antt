@@ -1,2 +1,0 @@
-pub mod ReadNeeds
-pub mod Laws
