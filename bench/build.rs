@@ -9,11 +9,9 @@ fn main() {
     println!("cargo::rerun-if-changed=plain.c");
     let folder = PathBuf::from(env::var("OUT_DIR").expect("OUT_DIR"));
     let (object, archive) = (folder.join("plain.o"), folder.join("libplain.a"));
-    run(
-        "cc",
-        &["-std=c99", "-O2", "-Wall", "-Wextra", "-Werror", "-c", "plain.c", "-o"],
-        &[&object],
-    );
+    let options =
+        "-std=c99 -O2 -falign-functions=64 -falign-loops=32 -Wall -Wextra -Werror -c plain.c -o";
+    run("cc", &options.split(' ').collect::<Vec<_>>(), &[&object]);
     run("ar", &["crs"], &[&archive, &object]);
     println!("cargo::rustc-link-search=native={}", folder.display());
     println!("cargo::rustc-link-lib=static=plain");
