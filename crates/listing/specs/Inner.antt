@@ -13,7 +13,7 @@ use Rattle.listing.specs.declared.kind.Kind.{Kind}
 use Rattle.listing.specs.Text.{decimal, rowsOf, rowText, rowAt, recordLimit, tableLimit}
 
 -- bytes, at most so many, stand at a place of what was old, and next is past them
-pub record Puts (old new : List ℕ) (at next : ℕ) (bytes : List ℕ) (most : ℕ) : Type 0 where
+pub record Prints (old new : List ℕ) (at next : ℕ) (bytes : List ℕ) (most : ℕ) : Type 0 where
   pub list : new ≡ sets old at bytes
   pub place : next ≡ at + length bytes
   pub few : length bytes ≤ most
