@@ -80,8 +80,7 @@ module _ {old now : List ℕ} {at x k m : ℕ} (w : Writing old now at x k m) wh
   write-end h z =
       let g : k - 1 ≡ at = omega (arith, w .place, length-one m h) in
       record {
-        list = ap (λ (i : ℕ). set now i (48 + m)) g ∙ ap (sets now at) (sym (decimal-one m h)) ∙ w .all;
-        place = omega (arith, z .is);
+        written = record { list = ap (λ (i : ℕ). set now i (48 + m)) g ∙ ap (sets now at) (sym (decimal-one m h)) ∙ w .all; place = omega (arith, z .is) };
         few = omega (arith, z .is, z .most);
       }
 
@@ -96,7 +95,7 @@ plain s = toZ-ofZ {w = w64} s
 
 module _ (x : ℤ) {old new : List ℕ} {at r size : ℕ} {neg : Bool} (s : SFits w64 x) (e : size ≡ mag (Bits x)) (n : neg ≡ isNeg (Bits x)) where
   pub sign-none : neg ≡ false → Prints old new at r (decimal size) 20 → Prints old new at r (decimalSigned x) 21
-  sign-none f p = let g = same x (e ∙ ap mag (plain s)) (n ∙ ap isNeg (plain s)) f in rw (← g) (record { list = p .list; place = p .place; few = omega (arith, p .few) })
+  sign-none f p = let g = same x (e ∙ ap mag (plain s)) (n ∙ ap isNeg (plain s)) f in rw (← g) (record { written = p .written; few = omega (arith, p .few) })
     where
       same : (x : ℤ) → size ≡ mag x → neg ≡ isNeg x → neg ≡ false → decimal size ≡ decimalSigned x
       same (pos k) e n f = ap decimal e ∙ sym (signed-plus k)

@@ -8,7 +8,7 @@ use native.Mathlib.Numerals.{add-one}
 use native.Mathlib.Omega.{arith}
 use lib.IntN.{ℤ, pos}
 use lib.ListN.{length, getD}
-use lib.Seq.{length-sets}
+use Rattle.answer.specs.Written.{written-long}
 use lib.Signed.{mag}
 use mir.Syntax.{w64}
 use mir.Val.{SFits}
@@ -71,7 +71,7 @@ pub record Rowing (k : Kind) (os ts ys : List ℕ) (us : List ℤ) (old now : Li
 module _ (k : Kind) (os ts ys : List ℕ) (us : List ℤ) where
   pub rows-begin : (old : List ℕ) (at count : ℕ) → Rowing k os ts ys us old old at at count 0
   unfolding rowsTo
-  rows-begin old at count = record { puts = record { list = refl; place = omega arith; few = omega arith }; within = omega arith }
+  rows-begin old at count = record { puts = record { written = record { list = refl; place = omega arith }; few = omega arith }; within = omega arith }
 
   rows-next : (i : ℕ) → rowsTo k os ts ys us (i + 1) ≡ rowsTo k os ts ys us i ++ rowText k i (rowAt os ts ys us i)
   unfolding rowsTo
@@ -82,10 +82,10 @@ module _ (k : Kind) (os ts ys : List ℕ) (us : List ℤ) where
 
 module _ {k : Kind} {os ts ys : List ℕ} {us : List ℤ} {old now : List ℕ} {at next count i : ℕ} (g : Rowing k os ts ys us old now at next count i) where
   pub rows-same : length now ≡ length old
-  rows-same = ap length (g .puts .list) ∙ length-sets old at (rowsTo k os ts ys us i)
+  rows-same = written-long (g .puts .written)
 
   pub rows-room : Room old at count os ts ys us → i < count → next + 109 ≤ length now
-  rows-room r h = omega (arith, r .page, rows-same, g .puts .place, g .puts .few)
+  rows-room r h = omega (arith, r .page, rows-same, g .puts .written .place, g .puts .few)
 
   pub rows-more : {new : List ℕ} {past : ℕ} → i < count → mag (getD us i (pos 0)) < 2 ^ 63
       → Prints now new next past (rowText k i (row (getD os i 0) (getD ts i 0) (getD ys i 0) (Bits (getD us i (pos 0))))) 109
@@ -104,7 +104,7 @@ module _ {old mid : List ℕ} {at : ℕ} (p : Prints old mid 0 at header 29) whe
   pub list-room : {count : ℕ} {os ts ys : List ℕ} {us : List ℤ} → Room old 29 count os ts ys us → Room mid at count os ts ys us
   list-room r =
       record {
-        page = omega (arith, r .page, p .place, p .few, ap length (p .list), length-sets old 0 header);
+        page = omega (arith, r .page, p .written .place, p .few, written-long (p .written));
         offsets = r .offsets;
         types = r .types;
         symbols = r .symbols;

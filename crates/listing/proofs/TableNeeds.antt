@@ -8,11 +8,12 @@ use native.Mathlib.Decide.{decLt}
 use native.Mathlib.Omega.{arith}
 use lib.IntN.{ℤ, pos}
 use lib.ListN.{length, take, drop, getD, length-drop, length-map, List·getD-append, List·getD-map}
-use lib.Seq.{take-all, take-append-seam, sets-eq, length-sets}
+use lib.Seq.{take-all, take-append-seam, sets-eq}
 use borrow.Author.Needs.{needs}
 use Rattle.answer.specs.declared.Answer.{Answer}
 use Rattle.answer.specs.Outcome.{Outcome, accepted, success, answerIn, filled, itself}
 use Rattle.answer.specs.Outcome.Laws.{filled-fits, answer-zero, Succeeded}
+use Rattle.answer.specs.Written.{written-long}
 use Rattle.records.specs.Identifier.{startsWith}
 use Rattle.records.specs.Identifier.Laws.{starts-short}
 use Rattle.relr_table.specs.Contract as relr
@@ -138,7 +139,7 @@ pub ruleset refusals = (refusal-put, needs)
 
 -- a text with another bound
 same-puts : {old new t u : List ℕ} {at r m n : ℕ} → Prints old new at r t m → t ≡ u → m ≤ n → Prints old new at r u n
-same-puts p e h = rw (← e) (record { list = p .list; place = p .place; few = omega (arith, p .few) })
+same-puts p e h = rw (← e) (record { written = p .written; few = omega (arith, p .few) })
 
 -- ---- the text of a table
 module _ (k : Kind) (s : List ℕ) {os ts ys : List ℕ} {us : List ℤ} {r : Answer} (d : Reads k s r os ts ys us) where
@@ -178,10 +179,10 @@ pub ruleset tables = (table-refused, table-few, table-room, table-listed, needs)
 -- ---- the text of an input
 shown : {old page t : List ℕ} {count : ℕ} → Prints old page 0 count t 131072 → 131072 ≤ length old → Shows page count t
 shown {old} {page} {t} {count} p room =
-    let e : count ≡ length t = omega (arith, p .place) in
+    let e : count ≡ length t = omega (arith, p .written .place) in
     record {
-      is = ap (take count) (p .list ∙ sets-eq t old 0 (omega (arith, p .few))) ∙ ap (λ (n : ℕ). take n (t ++ drop (0 + length t) old)) e ∙ take-append-seam t (drop (0 + length t) old);
-      within = omega (arith, p .few, ap length (p .list), length-sets old 0 t);
+      is = ap (take count) (p .written .list ∙ sets-eq t old 0 (omega (arith, p .few))) ∙ ap (λ (n : ℕ). take n (t ++ drop (0 + length t) old)) e ∙ take-append-seam t (drop (0 + length t) old);
+      within = omega (arith, p .few, written-long (p .written));
     }
 
 tried-starts : (s : List ℕ) (j : Kind) (rest : Line) (k : Kind) → tried j s rest ≡ Names k → (rest ≡ Names k → startsWith (lineOf k) s ≡ true) → startsWith (lineOf k) s ≡ true
