@@ -1,9 +1,25 @@
 // The static library: every call for programs in C and Rust, with the contract of the call behind it.
+ghost use mathlib.Core.Path.{_≡_};
+ghost use Rattle.reloc.specs.Version.{version};
 ghost use Rattle.relr_table.specs.Contract.{Reads as RelrReads, Writes as RelrWrites, Applies as RelrApplies};
 ghost use Rattle.apr1_table.specs.Contract.{Reads as Apr1Reads, Writes as Apr1Writes};
 ghost use Rattle.apa1_table.specs.Contract.{Reads as Apa1Reads, Writes as Apa1Writes};
 ghost use Rattle.relleb_table.specs.Contract.{Reads as RellebReads, Writes as RellebWrites};
 use answer::Answer;
+
+// The version: major, minor and patch.
+const MAJOR: u32 = 0;
+
+const MINOR: u32 = 2;
+
+const PATCH: u32 = 0;
+
+#[no_mangle]
+pub extern "C" fn reloc_version() -> u32
+    ensures { λ r. ⌜ r ≡ version ⌝ }
+{
+    MAJOR * 1000000 + MINOR * 1000 + PATCH
+}
 
 #[no_mangle]
 pub extern "C" fn reloc_relr_read(class: u32, table: &[u8], offsets: &mut [u64]) -> Answer
