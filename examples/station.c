@@ -1,5 +1,6 @@
 /* A packing station: reads a table of each kind, writes it again and holds the
- * two against each other byte for byte. */
+ * two against each other byte for byte. Each buffer has the room that the call
+ * asked for. */
 #include "reloc.h"
 
 #include <inttypes.h>
@@ -7,70 +8,116 @@
 #include <stdlib.h>
 #include <string.h>
 
-enum { RECORDS = 16, RESERVE = 64 };
-
-static uint64_t offsets[RECORDS];
-static uint32_t types[RECORDS];
-static uint32_t symbols[RECORDS];
-static int64_t addends[RECORDS];
-static uint8_t reserve[RESERVE];
-
-/* The count of a success; anything else ends the program. */
-static size_t done(const char *kind, struct reloc_answer answer)
+/* Says why a call refused, and ends the program. */
+static void refused(const char *kind, struct reloc_answer answer)
 {
-    if (answer.number != 0) {
-        printf("%s: refused %" PRIu32 " at %" PRIu64 "\n", kind, answer.number, answer.place);
-        exit(1);
+    printf("%s: %" PRIu32 " %s at %" PRIu64 "\n", kind, answer.number, reloc_name(answer.number),
+           answer.place);
+    exit(1);
+}
+
+/* The room that a call needs, by its answer to none: it needs none, or says how much. */
+static size_t need(const char *kind, struct reloc_answer answer)
+{
+    if (answer.number != RELOC_OK && answer.number != RELOC_REFUSED_ROOM) {
+        refused(kind, answer);
     }
     return (size_t)answer.count;
 }
 
-/* Holds what was written against the table that was read. */
-static void compare(const char *kind, size_t records, size_t written, const uint8_t *table,
-                    size_t table_len)
+/* A buffer of that room, which may be 0. */
+static void *buffer(size_t count, size_t size)
 {
-    if (written != table_len || memcmp(reserve, table, table_len) != 0) {
+    void *made = calloc(count > 0 ? count : 1, size);
+    if (made == NULL) {
+        printf("no memory\n");
+        exit(1);
+    }
+    return made;
+}
+
+/* A call with the room that it asked for succeeds, and fills it. */
+static void done(const char *kind, struct reloc_answer answer, size_t room)
+{
+    if (answer.number != RELOC_OK) {
+        refused(kind, answer);
+    }
+    if (answer.count != room) {
+        printf("%s: not the room needed\n", kind);
+        exit(1);
+    }
+}
+
+/* Holds what was written against the table that was read. */
+static void compare(const char *kind, size_t records, uint8_t *written, size_t bytes,
+                    const uint8_t *table, size_t table_len)
+{
+    if (bytes != table_len || (bytes > 0 && memcmp(written, table, bytes) != 0)) {
         printf("%s: other bytes than were read\n", kind);
         exit(1);
     }
-    printf("%s: %zu records, %zu bytes, the same when written again\n", kind, records, written);
+    printf("%s: %zu records, %zu bytes, the same when written again\n", kind, records, bytes);
+    free(written);
 }
 
 static void relr(const char *kind, uint32_t class_, const uint8_t *table, size_t table_len)
 {
-    size_t n = done(kind, reloc_relr_read(class_, table, table_len, offsets, RECORDS));
-    /* A write without room tells how many bytes the table needs. */
-    struct reloc_answer need = reloc_relr_write(class_, offsets, n, NULL, 0);
-    if (need.number != RELOC_ROOM || need.place != 0 || need.count != table_len) {
-        printf("%s: not the bytes needed\n", kind);
-        exit(1);
-    }
-    size_t written = done(kind, reloc_relr_write(class_, offsets, n, reserve, RESERVE));
-    compare(kind, n, written, table, table_len);
+    size_t n = need(kind, reloc_relr_read(class_, table, table_len, NULL, 0));
+    uint64_t *offsets = (uint64_t *)buffer(n, sizeof *offsets);
+    done(kind, reloc_relr_read(class_, table, table_len, offsets, n), n);
+    size_t bytes = need(kind, reloc_relr_write(class_, offsets, n, NULL, 0));
+    uint8_t *written = (uint8_t *)buffer(bytes, 1);
+    done(kind, reloc_relr_write(class_, offsets, n, written, bytes), bytes);
+    compare(kind, n, written, bytes, table, table_len);
+    free(offsets);
 }
 
-static void apr1(const uint8_t *table, size_t table_len)
+static void apr1(const char *kind, const uint8_t *table, size_t table_len)
 {
-    size_t n = done("apr1", reloc_apr1_read(table, table_len, offsets, RECORDS));
-    size_t written = done("apr1", reloc_apr1_write(offsets, n, reserve, RESERVE));
-    compare("apr1", n, written, table, table_len);
+    size_t n = need(kind, reloc_apr1_read(table, table_len, NULL, 0));
+    uint64_t *offsets = (uint64_t *)buffer(n, sizeof *offsets);
+    done(kind, reloc_apr1_read(table, table_len, offsets, n), n);
+    size_t bytes = need(kind, reloc_apr1_write(offsets, n, NULL, 0));
+    uint8_t *written = (uint8_t *)buffer(bytes, 1);
+    done(kind, reloc_apr1_write(offsets, n, written, bytes), bytes);
+    compare(kind, n, written, bytes, table, table_len);
+    free(offsets);
 }
 
-static void apa1(const uint8_t *table, size_t table_len)
+static void apa1(const char *kind, const uint8_t *table, size_t table_len)
 {
-    size_t n = done(
-        "apa1", reloc_apa1_read(table, table_len, offsets, RECORDS, addends, RECORDS));
-    size_t written = done("apa1", reloc_apa1_write(offsets, n, addends, n, reserve, RESERVE));
-    compare("apa1", n, written, table, table_len);
+    size_t n = need(kind, reloc_apa1_read(table, table_len, NULL, 0, NULL, 0));
+    uint64_t *offsets = (uint64_t *)buffer(n, sizeof *offsets);
+    int64_t *addends = (int64_t *)buffer(n, sizeof *addends);
+    done(kind, reloc_apa1_read(table, table_len, offsets, n, addends, n), n);
+    size_t bytes = need(kind, reloc_apa1_write(offsets, n, addends, n, NULL, 0));
+    uint8_t *written = (uint8_t *)buffer(bytes, 1);
+    done(kind, reloc_apa1_write(offsets, n, addends, n, written, bytes), bytes);
+    compare(kind, n, written, bytes, table, table_len);
+    free(offsets);
+    free(addends);
 }
 
 static void relleb(const char *kind, uint32_t class_, const uint8_t *table, size_t table_len)
 {
-    size_t n = done(kind, reloc_relleb_read(class_, table, table_len, offsets, RECORDS, types,
-                                            RECORDS, symbols, RECORDS, addends, RECORDS));
-    size_t written = done(kind, reloc_relleb_write(class_, offsets, n, types, n, symbols, n,
-                                                   addends, n, reserve, RESERVE));
-    compare(kind, n, written, table, table_len);
+    size_t n = need(kind, reloc_relleb_read(class_, table, table_len, NULL, 0, NULL, 0, NULL, 0,
+                                            NULL, 0));
+    uint64_t *offsets = (uint64_t *)buffer(n, sizeof *offsets);
+    uint32_t *types = (uint32_t *)buffer(n, sizeof *types);
+    uint32_t *symbols = (uint32_t *)buffer(n, sizeof *symbols);
+    int64_t *addends = (int64_t *)buffer(n, sizeof *addends);
+    done(kind, reloc_relleb_read(class_, table, table_len, offsets, n, types, n, symbols, n,
+                                 addends, n), n);
+    size_t bytes = need(kind, reloc_relleb_write(class_, offsets, n, types, n, symbols, n,
+                                                 addends, n, NULL, 0));
+    uint8_t *written = (uint8_t *)buffer(bytes, 1);
+    done(kind, reloc_relleb_write(class_, offsets, n, types, n, symbols, n, addends, n, written,
+                                  bytes), bytes);
+    compare(kind, n, written, bytes, table, table_len);
+    free(offsets);
+    free(types);
+    free(symbols);
+    free(addends);
 }
 
 int main(void)
@@ -85,12 +132,23 @@ int main(void)
     static const uint8_t pairs[] = {'A', 'P', 'A', '1', 2, 0x80, 0x20, 0x10, 8, 8};
     /* (16, 257, 3, -4), (24, 257, 3, -4): offset, type, symbol, addend. */
     static const uint8_t records[] = {2, 0x10, 0x81, 0x02, 0x7C, 0x7C, 8, 0, 3};
+    /* No pair, no record. */
+    static const uint8_t no_pairs[] = {'A', 'P', 'A', '1', 0};
+    static const uint8_t no_records[] = {0};
 
+    if (reloc_version() != RELOC_VERSION) {
+        printf("header %" PRIu32 ", library %" PRIu32 "\n", RELOC_VERSION, reloc_version());
+        return 1;
+    }
+    printf("reloc " RELOC_VERSION_TEXT "\n");
     relr("relr32", 4, relr32, sizeof relr32);
     relr("relr64", 8, relr64, sizeof relr64);
-    apr1(runs, sizeof runs);
-    apa1(pairs, sizeof pairs);
+    relr("relr64, empty", 8, NULL, 0);
+    apr1("apr1", runs, sizeof runs);
+    apa1("apa1", pairs, sizeof pairs);
+    apa1("apa1, empty", no_pairs, sizeof no_pairs);
     relleb("relleb32", 4, records, sizeof records);
     relleb("relleb64", 8, records, sizeof records);
+    relleb("relleb64, empty", 8, no_records, sizeof no_records);
     return 0;
 }

@@ -1,7 +1,7 @@
 /*
  * reloc: packed relocation tables, read, written and applied.
  *
- * Nine calls over four kinds of table:
+ * Calls over four kinds of table:
  *
  *   RELR    offsets of words, as addresses and bitmaps   class 4 or 8
  *   APR1    32-bit offsets, as runs of equal gaps        no class
@@ -23,9 +23,19 @@
  *   what its comment says and leaves the rest of every buffer as it was. On a
  *   refusal it changes nothing: every byte of every buffer is as it was.
  *
- *   A call gives one refusal. Its comment lists those it can give, in the order
- *   in which they are looked for; those in braces are found along the table or
- *   list, and the first fault met there is given.
+ *   A call gives one refusal. Its comment lists those it can give (their names
+ *   without RELOC_REFUSED_), in the order in which they are looked for; those in
+ *   braces are found along the table or list, and the first fault met there is
+ *   given.
+ *
+ * What the library is
+ *
+ *   libreloc.a is for x86-64 Linux. It is code alone: no data and no bss, so no
+ *   state; no undefined symbol, so no heap and no C library. Every call is
+ *   re-entrant, and calls may run at once on buffers of their own. A call takes
+ *   at most RELOC_STACK_LIMIT bytes of stack, with its return address and the red
+ *   zone of the x86-64 ABI: an interrupt handler that runs on the same stack must
+ *   leave the 128 bytes below the stack pointer alone.
  *
  * What the caller owes; no call checks it, and a call that is not given it
  * promises nothing
@@ -39,6 +49,22 @@
  *   The library does not dereference the pointer of a buffer whose count is 0;
  *   such a pointer may be any non-null pointer aligned for its type, and it may
  *   be NULL.
+ *
+ * How to size a buffer
+ *
+ *   A read or a write that is lent no room changes nothing and tells what it
+ *   needs, in records or bytes. It answers RELOC_REFUSED_ROOM with the need or,
+ *   where it needs none (an empty list that is read, or written as RELR), RELOC_OK
+ *   with 0. So count is the need in both:
+ *
+ *     struct reloc_answer need = reloc_relr_write(8, offsets, n, NULL, 0);
+ *     if (need.number != RELOC_OK && need.number != RELOC_REFUSED_ROOM)
+ *         return need.number;          refused, whatever the room
+ *     size_t room = (size_t)need.count;
+ *
+ *   The room may be 0: then NULL will do for the buffer, and what malloc(0) gives.
+ *   The need of reloc_apr1_read may be far above any memory; compare it with what
+ *   there is.
  */
 #ifndef RELOC_H
 #define RELOC_H
@@ -49,6 +75,33 @@
 #ifdef __cplusplus
 extern "C" {
 #endif
+
+/* A call whose answer is not looked at gets a warning, where the compiler can. */
+#if (defined(__cplusplus) && __cplusplus >= 201703L) || \
+    (defined(__STDC_VERSION__) && __STDC_VERSION__ >= 202311L)
+#define RELOC_NODISCARD [[nodiscard]]
+#elif defined(__GNUC__)
+#define RELOC_NODISCARD __attribute__((warn_unused_result))
+#else
+#define RELOC_NODISCARD
+#endif
+
+/*
+ * The version of this header: major * 1000000 + minor * 1000 + patch, and as text.
+ * Minor is raised when a call's arguments or answers change; CHANGELOG.md tells
+ * how. A program built with another header than the library's sees it:
+ *
+ *     if (reloc_version() != RELOC_VERSION) the header is not the library's
+ */
+#define RELOC_VERSION 2000u
+#define RELOC_VERSION_TEXT "0.2.0"
+
+/* The version of the library, as RELOC_VERSION. */
+RELOC_NODISCARD
+uint32_t reloc_version(void);
+
+/* The most bytes of stack that a call takes. */
+#define RELOC_STACK_LIMIT 512
 
 /* The longest table that is read or applied, in bytes. */
 #define RELOC_INPUT_LIMIT 33554432
@@ -61,8 +114,8 @@ extern "C" {
  *
  *   success: number and place are 0; count is the records read, the bytes
  *            written or the additions made.
- *   refusal: number says why (enum reloc_refusal), place says where; count is 0,
- *            except that RELOC_ROOM gives the records or bytes needed.
+ *   refusal: number says why (enum reloc_number), place says where; count is 0,
+ *            except that RELOC_REFUSED_ROOM gives the records or bytes needed.
  */
 struct reloc_answer {
     uint32_t number;
@@ -71,35 +124,63 @@ struct reloc_answer {
 };
 
 /*
- * The refusals. A place other than 0 is a byte of the table where a table is
- * read or applied (but see RELOC_OUTSIDE), and an index in the list where a list
- * is written.
+ * The numbers of an answer: success, and the refusals. A place other than 0 is a
+ * byte of the table where a table is read or applied (but see
+ * RELOC_REFUSED_OUTSIDE), and an index in the list where a list is written.
  */
-enum reloc_refusal {
-    RELOC_CLASS = 1,      /* the class is not 4 or 8; place 0 */
-    RELOC_LIMIT = 2,      /* table or list over its limit; place 0 */
-    RELOC_IDENTIFIER = 3, /* the table does not start with its identifier; place 0 */
-    RELOC_MISSING = 4,    /* the table ends early, or a RELR table is not whole
-                             words; place is the table's length */
-    RELOC_WIDTH = 5,      /* a number outside its width, or a negative count;
-                             place is the number's first byte */
-    RELOC_ORDER = 6,      /* read, apply: a RELR bitmap before any address; place
-                             is the word's first byte. Write: an offset equal to
-                             or below the one before; place is its index */
-    RELOC_SPACE = 7,      /* an offset outside the address space; place is the
-                             first byte of the RELR word, of APR1's A or C, or
-                             the index in the list */
-    RELOC_TRAILING = 8,   /* bytes after the last record; place is the first */
-    RELOC_ROOM = 9,       /* too little room; place 0, count is what is needed */
-    RELOC_ODD = 10,       /* RELR write: an odd offset; place is its index */
-    RELOC_COLUMNS = 11,   /* columns of different lengths; place 0 */
-    RELOC_OUTSIDE = 12,   /* apply: a word ends outside the image; place is the
-                             index in the list that the table decodes to */
-    RELOC_EMPTY = 13,     /* APR1 write: an empty list; place 0 */
-    RELOC_ADDEND = 14,    /* RELLEB class 4 write: an addend outside signed 32
-                             bits; place is its index */
-    RELOC_BASE = 15       /* apply, class 4: a base above 2^32 - 1; place 0 */
+enum reloc_number {
+    RELOC_OK = 0,                 /* success; place 0 */
+    RELOC_REFUSED_CLASS = 1,      /* the class is not 4 or 8; place 0 */
+    RELOC_REFUSED_LIMIT = 2,      /* table or list over its limit; place 0 */
+    RELOC_REFUSED_IDENTIFIER = 3, /* the table does not start with its identifier;
+                                     place 0 */
+    RELOC_REFUSED_MISSING = 4,    /* the table ends early, or a RELR table is not
+                                     whole words; place is the table's length */
+    RELOC_REFUSED_WIDTH = 5,      /* a number outside its width, or a negative
+                                     count; place is the number's first byte */
+    RELOC_REFUSED_ORDER = 6,      /* read, apply: a RELR bitmap before any address;
+                                     place is the word's first byte. Write: an
+                                     offset equal to or below the one before; place
+                                     is its index */
+    RELOC_REFUSED_SPACE = 7,      /* an offset outside the address space; place is
+                                     the first byte of the RELR word, of APR1's A or
+                                     C, or the index in the list */
+    RELOC_REFUSED_TRAILING = 8,   /* bytes after the last record; place is the first */
+    RELOC_REFUSED_ROOM = 9,       /* too little room; place 0, count is what is
+                                     needed */
+    RELOC_REFUSED_ODD = 10,       /* RELR write: an odd offset; place is its index */
+    RELOC_REFUSED_COLUMNS = 11,   /* columns of different lengths; place 0 */
+    RELOC_REFUSED_OUTSIDE = 12,   /* apply: a word ends outside the image; place is
+                                     the index in the list that the table decodes to */
+    RELOC_REFUSED_EMPTY = 13,     /* APR1 write: an empty list; place 0 */
+    RELOC_REFUSED_ADDEND = 14,    /* RELLEB class 4 write: an addend outside signed
+                                     32 bits; place is its index */
+    RELOC_REFUSED_BASE = 15       /* apply, class 4: a base above 2^32 - 1; place 0 */
 };
+
+/* The name of an answer's number, for a log. */
+static inline const char *reloc_name(uint32_t number)
+{
+    switch (number) {
+    case RELOC_OK: return "RELOC_OK";
+    case RELOC_REFUSED_CLASS: return "RELOC_REFUSED_CLASS";
+    case RELOC_REFUSED_LIMIT: return "RELOC_REFUSED_LIMIT";
+    case RELOC_REFUSED_IDENTIFIER: return "RELOC_REFUSED_IDENTIFIER";
+    case RELOC_REFUSED_MISSING: return "RELOC_REFUSED_MISSING";
+    case RELOC_REFUSED_WIDTH: return "RELOC_REFUSED_WIDTH";
+    case RELOC_REFUSED_ORDER: return "RELOC_REFUSED_ORDER";
+    case RELOC_REFUSED_SPACE: return "RELOC_REFUSED_SPACE";
+    case RELOC_REFUSED_TRAILING: return "RELOC_REFUSED_TRAILING";
+    case RELOC_REFUSED_ROOM: return "RELOC_REFUSED_ROOM";
+    case RELOC_REFUSED_ODD: return "RELOC_REFUSED_ODD";
+    case RELOC_REFUSED_COLUMNS: return "RELOC_REFUSED_COLUMNS";
+    case RELOC_REFUSED_OUTSIDE: return "RELOC_REFUSED_OUTSIDE";
+    case RELOC_REFUSED_EMPTY: return "RELOC_REFUSED_EMPTY";
+    case RELOC_REFUSED_ADDEND: return "RELOC_REFUSED_ADDEND";
+    case RELOC_REFUSED_BASE: return "RELOC_REFUSED_BASE";
+    default: return "unknown";
+    }
+}
 
 /*
  * Reads a RELR table into offsets.
@@ -110,6 +191,7 @@ enum reloc_refusal {
  * Refuses: CLASS, LIMIT, MISSING (not whole words), { ORDER, SPACE }, ROOM.
  * SPACE: offset + class is above 2^W.
  */
+RELOC_NODISCARD
 struct reloc_answer reloc_relr_read(uint32_t class_, const uint8_t *table, size_t table_len,
                                     uint64_t *offsets, size_t offsets_len);
 
@@ -123,6 +205,7 @@ struct reloc_answer reloc_relr_read(uint32_t class_, const uint8_t *table, size_
  * SPACE: offset + class is above 2^W. ROOM: table_len is below that fewest number
  * of bytes; count is then that number.
  */
+RELOC_NODISCARD
 struct reloc_answer reloc_relr_write(uint32_t class_, const uint64_t *offsets, size_t offsets_len,
                                      uint8_t *table, size_t table_len);
 
@@ -135,6 +218,7 @@ struct reloc_answer reloc_relr_write(uint32_t class_, const uint64_t *offsets, s
  * Refuses: CLASS, BASE, LIMIT, MISSING (not whole words), { ORDER, SPACE },
  * OUTSIDE. Every offset is tried against the image before any word is changed.
  */
+RELOC_NODISCARD
 struct reloc_answer reloc_relr_apply(uint32_t class_, const uint8_t *table, size_t table_len,
                                      uint64_t base, uint8_t *image, size_t image_len);
 
@@ -148,6 +232,7 @@ struct reloc_answer reloc_relr_apply(uint32_t class_, const uint8_t *table, size
  * SPACE: an offset is above 2^32 - 4; place is the first byte of A or, for an
  * offset of a pair, of that pair's C. ROOM's count may be far above any limit.
  */
+RELOC_NODISCARD
 struct reloc_answer reloc_apr1_read(const uint8_t *table, size_t table_len, uint64_t *offsets,
                                     size_t offsets_len);
 
@@ -160,6 +245,7 @@ struct reloc_answer reloc_apr1_read(const uint8_t *table, size_t table_len, uint
  * Refuses: LIMIT, EMPTY, { SPACE, ORDER, in this order at one index }, ROOM.
  * SPACE: an offset is above 2^32 - 4.
  */
+RELOC_NODISCARD
 struct reloc_answer reloc_apr1_write(const uint64_t *offsets, size_t offsets_len, uint8_t *table,
                                      size_t table_len);
 
@@ -171,6 +257,7 @@ struct reloc_answer reloc_apr1_write(const uint64_t *offsets, size_t offsets_len
  *
  * Refuses: COLUMNS, LIMIT, IDENTIFIER, { MISSING, WIDTH }, TRAILING, ROOM.
  */
+RELOC_NODISCARD
 struct reloc_answer reloc_apa1_read(const uint8_t *table, size_t table_len, uint64_t *offsets,
                                     size_t offsets_len, int64_t *addends, size_t addends_len);
 
@@ -181,6 +268,7 @@ struct reloc_answer reloc_apa1_read(const uint8_t *table, size_t table_len, uint
  *
  * Refuses: COLUMNS, LIMIT, ROOM.
  */
+RELOC_NODISCARD
 struct reloc_answer reloc_apa1_write(const uint64_t *offsets, size_t offsets_len,
                                      const int64_t *addends, size_t addends_len, uint8_t *table,
                                      size_t table_len);
@@ -193,6 +281,7 @@ struct reloc_answer reloc_apa1_write(const uint64_t *offsets, size_t offsets_len
  *
  * Refuses: CLASS, COLUMNS, LIMIT, { MISSING, WIDTH }, TRAILING, ROOM.
  */
+RELOC_NODISCARD
 struct reloc_answer reloc_relleb_read(uint32_t class_, const uint8_t *table, size_t table_len,
                                       uint64_t *offsets, size_t offsets_len, uint32_t *types,
                                       size_t types_len, uint32_t *symbols, size_t symbols_len,
@@ -206,6 +295,7 @@ struct reloc_answer reloc_relleb_read(uint32_t class_, const uint8_t *table, siz
  * Refuses: CLASS, COLUMNS, LIMIT, { SPACE, ADDEND, in this order at one index;
  * class 4 only }, ROOM. SPACE: an offset is above 2^32 - 1.
  */
+RELOC_NODISCARD
 struct reloc_answer reloc_relleb_write(uint32_t class_, const uint64_t *offsets,
                                        size_t offsets_len, const uint32_t *types, size_t types_len,
                                        const uint32_t *symbols, size_t symbols_len,

@@ -1,0 +1,114 @@
+/* Holds include/reloc.h to the library: its version, each number with its name,
+ * and the limits. A number is held by a call that must be refused with it, a
+ * limit by calls at it and one over it. */
+#include "reloc.h"
+
+#include <inttypes.h>
+#include <stdio.h>
+#include <stdlib.h>
+#include <string.h>
+
+static int wrong;
+
+static void check(const char *what, int holds)
+{
+    if (!holds) {
+        printf("header: %s\n", what);
+        wrong = 1;
+    }
+}
+
+/* The answer has the number, and the number its name. */
+static void expect(uint32_t number, const char *name, struct reloc_answer answer)
+{
+    check(name, answer.number == number && strcmp(reloc_name(number), name) == 0);
+}
+#define EXPECT(number, call) expect(number, #number, call)
+
+static void version(void)
+{
+    char text[32];
+    uint32_t number = reloc_version();
+    snprintf(text, sizeof text, "%" PRIu32 ".%" PRIu32 ".%" PRIu32, number / 1000000,
+             number / 1000 % 1000, number % 1000);
+    check("RELOC_VERSION", number == RELOC_VERSION);
+    check("RELOC_VERSION_TEXT", strcmp(text, RELOC_VERSION_TEXT) == 0);
+}
+
+/* Each number by a call that gives it; LIMIT is in limits. */
+static void numbers(void)
+{
+    static const uint8_t bitmap[] = {1, 0, 0, 0};
+    static const uint8_t high[] = {0xFE, 0xFF, 0xFF, 0xFF};
+    static const uint8_t long_count[] = {0x80, 0x80, 0x80, 0x80, 0x80, 0x80, 0x80, 0x80, 0x80, 2};
+    static const uint8_t word[8] = {0};
+    static const uint64_t falling[] = {8, 4}, odd[] = {1};
+    static const int64_t wide[] = {INT64_C(1) << 31};
+    static const uint32_t zero[] = {0};
+    uint64_t offset[1];
+    uint8_t image[4] = {0};
+
+    EXPECT(RELOC_OK, reloc_relr_read(8, NULL, 0, NULL, 0));
+    EXPECT(RELOC_REFUSED_CLASS, reloc_relr_read(5, NULL, 0, NULL, 0));
+    EXPECT(RELOC_REFUSED_IDENTIFIER, reloc_apr1_read(bitmap, 4, NULL, 0));
+    EXPECT(RELOC_REFUSED_MISSING, reloc_relr_read(8, bitmap, 4, NULL, 0));
+    EXPECT(RELOC_REFUSED_WIDTH,
+           reloc_relleb_read(8, long_count, 10, NULL, 0, NULL, 0, NULL, 0, NULL, 0));
+    EXPECT(RELOC_REFUSED_ORDER, reloc_relr_read(4, bitmap, 4, NULL, 0));
+    EXPECT(RELOC_REFUSED_ORDER, reloc_apr1_write(falling, 2, NULL, 0));
+    EXPECT(RELOC_REFUSED_SPACE, reloc_relr_read(4, high, 4, NULL, 0));
+    EXPECT(RELOC_REFUSED_TRAILING,
+           reloc_relleb_read(8, word, 8, NULL, 0, NULL, 0, NULL, 0, NULL, 0));
+    EXPECT(RELOC_REFUSED_ROOM, reloc_relr_read(8, word, 8, NULL, 0));
+    EXPECT(RELOC_REFUSED_ODD, reloc_relr_write(8, odd, 1, NULL, 0));
+    EXPECT(RELOC_REFUSED_COLUMNS, reloc_apa1_read(NULL, 0, offset, 1, NULL, 0));
+    EXPECT(RELOC_REFUSED_OUTSIDE, reloc_relr_apply(8, word, 8, 0, image, 4));
+    EXPECT(RELOC_REFUSED_EMPTY, reloc_apr1_write(NULL, 0, NULL, 0));
+    EXPECT(RELOC_REFUSED_ADDEND, reloc_relleb_write(4, odd, 1, zero, 1, zero, 1, wide, 1, NULL, 0));
+    EXPECT(RELOC_REFUSED_BASE, reloc_relr_apply(4, NULL, 0, UINT64_C(1) << 32, NULL, 0));
+    check("a number without a name", strcmp(reloc_name(16), "unknown") == 0);
+}
+
+/* A call of some length is refused by the limit exactly where it should be. */
+static void limit(const char *what, struct reloc_answer answer, int over)
+{
+    check(what, (answer.number == RELOC_REFUSED_LIMIT) == over);
+}
+
+static void limits(void)
+{
+    uint8_t *table = (uint8_t *)calloc(RELOC_INPUT_LIMIT + 1, 1);
+    uint64_t *o = (uint64_t *)calloc(RELOC_LIST_LIMIT + 1, sizeof *o);
+    uint32_t *t = (uint32_t *)calloc(RELOC_LIST_LIMIT + 1, sizeof *t);
+    int64_t *a = (int64_t *)calloc(RELOC_LIST_LIMIT + 1, sizeof *a);
+    if (table == NULL || o == NULL || t == NULL || a == NULL) {
+        check("no memory", 0);
+        return;
+    }
+    for (int over = 0; over < 2; over++) {
+        size_t m = RELOC_INPUT_LIMIT + (size_t)over, n = RELOC_LIST_LIMIT + (size_t)over;
+        limit("relr_read", reloc_relr_read(8, table, m, NULL, 0), over);
+        limit("relr_apply", reloc_relr_apply(8, table, m, 0, NULL, 0), over);
+        limit("apr1_read", reloc_apr1_read(table, m, NULL, 0), over);
+        limit("apa1_read", reloc_apa1_read(table, m, NULL, 0, NULL, 0), over);
+        limit("relleb_read",
+              reloc_relleb_read(8, table, m, NULL, 0, NULL, 0, NULL, 0, NULL, 0), over);
+        limit("relr_write", reloc_relr_write(8, o, n, NULL, 0), over);
+        limit("apr1_write", reloc_apr1_write(o, n, NULL, 0), over);
+        limit("apa1_write", reloc_apa1_write(o, n, a, n, NULL, 0), over);
+        limit("relleb_write", reloc_relleb_write(8, o, n, t, n, t, n, a, n, NULL, 0), over);
+    }
+    EXPECT(RELOC_REFUSED_LIMIT, reloc_apr1_read(table, RELOC_INPUT_LIMIT + 1, NULL, 0));
+    free(table);
+    free(o);
+    free(t);
+    free(a);
+}
+
+int main(void)
+{
+    version();
+    numbers();
+    limits();
+    return wrong;
+}
