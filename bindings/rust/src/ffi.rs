@@ -26,6 +26,8 @@ impl Answer {
 // count, for writing too and without overlap or other users where it is `*mut`.
 // The pointer of an empty slice is not dereferenced.
 unsafe extern "C" {
+    pub fn reloc_version() -> u32;
+
     pub fn reloc_relr_read(
         class: u32,
         table: *const u8,

@@ -9,30 +9,62 @@
 //! made; a read changes that many entries at the front of each column, a write
 //! that many bytes at the front of the table. A refused call changes nothing.
 //!
+//! A call that is lent no room tells what it needs, which [`need`] takes from its
+//! answer, for the empty list too:
+//!
 //! ```
-//! use reloc::{Kind, relr_read, relr_write};
+//! use reloc::{need, relr_read, relr_write};
 //!
 //! let offsets = [0x2000, 0x2008, 0x2010, 0x2018];
-//! let refusal = relr_write(8, &offsets, &mut []).unwrap_err();
-//! assert_eq!((refusal.kind(), refusal.need), (Kind::Room, 16));
-//!
-//! let mut table = [0; 16];
+//! let room = need(relr_write(8, &offsets, &mut []))?;
+//! let mut table = vec![0; room as usize];
 //! assert_eq!(relr_write(8, &offsets, &mut table), Ok(16));
-//! let mut again = [0; 4];
+//!
+//! let room = need(relr_read(8, &table, &mut []))?;
+//! let mut again = vec![0; room as usize];
 //! assert_eq!(relr_read(8, &table, &mut again), Ok(4));
 //! assert_eq!(again, offsets);
+//! # Ok::<(), reloc::Refusal>(())
 //! ```
+//!
+//! The crate needs neither `std` nor a heap. [`VERSION`] is that of `reloc.h`;
+//! [`version`] asks the library that was linked.
+
+#![no_std]
+#![warn(missing_docs)]
 
 mod ffi;
 mod refusal;
 
 pub use refusal::{Kind, Refusal};
 
+/// The version of this wrapper: major × 1,000,000 + minor × 1,000 + patch.
+pub const VERSION: u32 = 2_000;
+
 /// The longest table that is read or applied, in bytes.
 pub const INPUT_LIMIT: usize = 33_554_432;
 
 /// The longest list that is written, in records.
 pub const LIST_LIMIT: usize = 1_048_576;
+
+/// The version of the library, as [`VERSION`].
+pub fn version() -> u32 {
+    // SAFETY: it takes nothing.
+    unsafe { ffi::reloc_version() }
+}
+
+/// The records or bytes that a call needs, by its answer when it was lent no
+/// room: it succeeds where it needs none, and is refused with [`Kind::Room`]
+/// where it needs some. Every other refusal is handed on.
+///
+/// The need of [`apr1_read`] may be far above any memory.
+pub fn need(answer: Result<usize, Refusal>) -> Result<u64, Refusal> {
+    match answer {
+        Ok(count) => Ok(count as u64),
+        Err(refusal) if refusal.kind() == Kind::Room => Ok(refusal.need),
+        Err(refusal) => Err(refusal),
+    }
+}
 
 // SAFETY, for every call below: pointer and length come from one slice, so the
 // pointer is aligned and valid for the length; `&mut` keeps what is written
@@ -41,7 +73,8 @@ pub const LIST_LIMIT: usize = 1_048_576;
 
 /// Reads a RELR table. Offsets may repeat or go back.
 ///
-/// Refuses 1, 2, 4, then the first of 6 and 7 along the table, then 9.
+/// Refuses [`Kind::Class`], [`Kind::Limit`], [`Kind::Missing`], then the first
+/// of [`Kind::Order`] and [`Kind::Space`] along the table, then [`Kind::Room`].
 pub fn relr_read(class: u32, table: &[u8], offsets: &mut [u64]) -> Result<usize, Refusal> {
     unsafe {
         ffi::reloc_relr_read(
@@ -58,7 +91,8 @@ pub fn relr_read(class: u32, table: &[u8], offsets: &mut [u64]) -> Result<usize,
 /// Writes a strictly increasing list of even offsets as a RELR table, the
 /// shortest that reads as this list.
 ///
-/// Refuses 1, 2, then the first of 10, 7 and 6 along the list, then 9.
+/// Refuses [`Kind::Class`], [`Kind::Limit`], then the first of [`Kind::Odd`],
+/// [`Kind::Space`] and [`Kind::Order`] along the list, then [`Kind::Room`].
 pub fn relr_write(class: u32, offsets: &[u64], table: &mut [u8]) -> Result<usize, Refusal> {
     unsafe {
         ffi::reloc_relr_write(
@@ -75,7 +109,9 @@ pub fn relr_write(class: u32, offsets: &[u64], table: &mut [u8]) -> Result<usize
 /// Adds `base` to the image's word at each offset of a RELR table, in order,
 /// wrapping at W bits. An offset is an index into the image.
 ///
-/// Refuses 1, 15, 2, 4, then the first of 6 and 7 along the table, then 12.
+/// Refuses [`Kind::Class`], [`Kind::Base`], [`Kind::Limit`], [`Kind::Missing`],
+/// then the first of [`Kind::Order`] and [`Kind::Space`] along the table, then
+/// [`Kind::Outside`].
 pub fn relr_apply(class: u32, table: &[u8], base: u64, image: &mut [u8]) -> Result<usize, Refusal> {
     unsafe {
         ffi::reloc_relr_apply(
@@ -92,7 +128,9 @@ pub fn relr_apply(class: u32, table: &[u8], base: u64, image: &mut [u8]) -> Resu
 
 /// Reads an APR1 table.
 ///
-/// Refuses 2, 3, then the first of 4, 5 and 7 along the table, then 8, 9.
+/// Refuses [`Kind::Limit`], [`Kind::Identifier`], then the first of
+/// [`Kind::Missing`], [`Kind::Width`] and [`Kind::Space`] along the table, then
+/// [`Kind::Trailing`], [`Kind::Room`].
 pub fn apr1_read(table: &[u8], offsets: &mut [u64]) -> Result<usize, Refusal> {
     unsafe {
         ffi::reloc_apr1_read(table.as_ptr(), table.len(), offsets.as_mut_ptr(), offsets.len())
@@ -103,7 +141,8 @@ pub fn apr1_read(table: &[u8], offsets: &mut [u64]) -> Result<usize, Refusal> {
 /// Writes a strictly increasing list of at least one offset, none above
 /// 2^32 − 4, as an APR1 table.
 ///
-/// Refuses 2, 13, then the first of 7 and 6 along the list, then 9.
+/// Refuses [`Kind::Limit`], [`Kind::Empty`], then the first of [`Kind::Space`]
+/// and [`Kind::Order`] along the list, then [`Kind::Room`].
 pub fn apr1_write(offsets: &[u64], table: &mut [u8]) -> Result<usize, Refusal> {
     unsafe {
         ffi::reloc_apr1_write(offsets.as_ptr(), offsets.len(), table.as_mut_ptr(), table.len())
@@ -113,7 +152,9 @@ pub fn apr1_write(offsets: &[u64], table: &mut [u8]) -> Result<usize, Refusal> {
 
 /// Reads an APA1 table.
 ///
-/// Refuses 11, 2, 3, then the first of 4 and 5 along the table, then 8, 9.
+/// Refuses [`Kind::Columns`], [`Kind::Limit`], [`Kind::Identifier`], then the
+/// first of [`Kind::Missing`] and [`Kind::Width`] along the table, then
+/// [`Kind::Trailing`], [`Kind::Room`].
 pub fn apa1_read(table: &[u8], offsets: &mut [u64], addends: &mut [i64]) -> Result<usize, Refusal> {
     unsafe {
         ffi::reloc_apa1_read(
@@ -130,7 +171,7 @@ pub fn apa1_read(table: &[u8], offsets: &mut [u64], addends: &mut [i64]) -> Resu
 
 /// Writes offsets with addends, in any order, as an APA1 table.
 ///
-/// Refuses 11, 2, 9.
+/// Refuses [`Kind::Columns`], [`Kind::Limit`], [`Kind::Room`].
 pub fn apa1_write(offsets: &[u64], addends: &[i64], table: &mut [u8]) -> Result<usize, Refusal> {
     unsafe {
         ffi::reloc_apa1_write(
@@ -147,7 +188,9 @@ pub fn apa1_write(offsets: &[u64], addends: &[i64], table: &mut [u8]) -> Result<
 
 /// Reads a RELLEB table.
 ///
-/// Refuses 1, 11, 2, then the first of 4 and 5 along the table, then 8, 9.
+/// Refuses [`Kind::Class`], [`Kind::Columns`], [`Kind::Limit`], then the first
+/// of [`Kind::Missing`] and [`Kind::Width`] along the table, then
+/// [`Kind::Trailing`], [`Kind::Room`].
 pub fn relleb_read(
     class: u32,
     table: &[u8],
@@ -176,7 +219,9 @@ pub fn relleb_read(
 
 /// Writes records, in any order, as a RELLEB table.
 ///
-/// Refuses 1, 11, 2, in class 4 the first of 7 and 14 along the list, then 9.
+/// Refuses [`Kind::Class`], [`Kind::Columns`], [`Kind::Limit`], in class 4 the
+/// first of [`Kind::Space`] and [`Kind::Addend`] along the list, then
+/// [`Kind::Room`].
 pub fn relleb_write(
     class: u32,
     offsets: &[u64],

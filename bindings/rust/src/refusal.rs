@@ -1,9 +1,9 @@
-use std::fmt;
+use core::fmt;
 
 /// Why a call refused, and where. A refused call has changed nothing.
 #[derive(Clone, Copy, PartialEq, Eq, Debug)]
 pub struct Refusal {
-    /// The refusal's number, 1 to 15; [`Refusal::kind`] names it.
+    /// The refusal's number; [`Refusal::kind`] names it.
     pub number: u32,
     /// A byte of the table for a read or an apply, an index in the list for a
     /// write or for [`Kind::Outside`]; 0 where [`Kind`] names no place.
@@ -55,6 +55,7 @@ pub enum Kind {
 }
 
 impl Refusal {
+    /// The refusal by name.
     pub fn kind(&self) -> Kind {
         match self.number {
             1 => Kind::Class,
@@ -110,4 +111,4 @@ impl fmt::Display for Refusal {
     }
 }
 
-impl std::error::Error for Refusal {}
+impl core::error::Error for Refusal {}
