@@ -1,13 +1,20 @@
-#!/bin/bash
-# Runs the Rust tests of the library under valgrind, with the libreloc.a in $RELOC_LIB_DIR. It takes some minutes and is no part of
-# the gate; the C examples run under valgrind in c.sh.
-set -eu
+#!/usr/bin/env bash
+# Runs the Rust tests of the library under valgrind, with the libreloc.a in $RELOC_LIB_DIR: of the crates named, or of the wrapper and
+# the comparison with the reference, which takes some minutes. The gate names the wrapper; the C examples run under valgrind in c.sh.
+# It fails where no test ran.
+set -euo pipefail
 
-: "${RELOC_LIB_DIR:?the folder of libreloc.a}"
-for crate in bindings/rust tests/differential; do
-    cd "$(dirname "${BASH_SOURCE[0]}")/../$crate"
-    cargo test --offline --no-run 2>&1 | sed -n 's/^ *Executable .* (\(.*\))$/\1/p' | while read -r test; do
-        valgrind --error-exitcode=9 -q "$test" --test-threads=1
+root=$(cd "$(dirname "$0")/.." && pwd)
+[ -f "${RELOC_LIB_DIR:?the folder of libreloc.a}/libreloc.a" ] || { echo "valgrind: no libreloc.a in $RELOC_LIB_DIR"; exit 1; }
+[ $# -gt 0 ] || set -- bindings/rust tests/differential
+for crate in "$@"; do
+    cd "$root/$crate"
+    built=$(cargo test --offline --no-run 2>&1) || { echo "$built"; exit 1; }
+    passed=0
+    for program in $(sed -n 's/^ *Executable .* (\(.*\))$/\1/p' <<<"$built"); do
+        said=$(valgrind --error-exitcode=9 -q "$program" --test-threads=1 2>&1) || { echo "$said"; exit 1; }
+        passed=$((passed + $(sed -n 's/^test result: ok\. \([0-9]*\) passed.*/\1/p' <<<"$said")))
     done
-    cd - >/dev/null
+    [ "$passed" -gt 0 ] || { echo "valgrind: no test of $crate ran"; exit 1; }
+    echo "valgrind: $crate: $passed tests, nothing reported"
 done
