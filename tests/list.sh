@@ -1,5 +1,6 @@
 #!/usr/bin/env bash
-# Runs the listing program in target/bin at its limits and on bad input, and the main command on its samples.
+# Runs the listing program in target/bin at its limits and on bad input, and the main command ./list-table: on its samples, with wrong
+# arguments, with a table that is refused, and when something has to be proved.
 set -eu
 root=$(cd "$(dirname "$0")/.." && pwd)
 out=$(mktemp -d)
@@ -40,5 +41,44 @@ printf 'apr1\nAPR' | refused "a cut identifier" 3 0
 printf 'apa1\nAPA1\100' | refused "a negative count" 5 4
 printf 'relleb32\n\0\0' | refused "a byte after the last record" 8 1
 { printf re; sleep 0.1; echo lr64; sleep 0.1; zeros 3; sleep 0.1; zeros 5; } | expect "short reads" offsets 1
-"$root/list-table" | diff "$root/samples/listing" - || { echo "list: the samples"; exit 1; }
 echo "listing program: ok"
+
+fail() { echo "list-table: $1"; exit 1; }
+
+# ./list-table with the arguments after $1 ends with the status $1
+ends() {
+    local status=0
+    "$root/list-table" "${@:2}" >"$out/said" 2>"$out/told" || status=$?
+    [ "$status" -eq "$1" ] || { cat "$out/told"; fail "status $status for ${*:2}"; }
+}
+
+ends 0
+diff "$root/samples/listing" "$out/said" || fail "the samples"
+[ ! -s "$out/told" ] || fail "nothing has to be proved, and something is told"
+ends 0 apa1 "$root/samples/pairs.apa1"
+ends 1 relr64 "$root/samples/bitmap-first.relr64"
+printf 'refused\t6\t0\n' | cmp - "$out/said" || fail "the text of a refusal"
+ends 0 --help
+grep -q '^usage:' "$out/said" || fail "--help"
+
+# A wrong kind is told before anything is proved: no rt is called.
+mkdir "$out/bin"
+printf '#!/bin/sh\necho called >"%s/called"\n' "$out" >"$out/bin/rt"
+chmod +x "$out/bin/rt"
+PATH=$out/bin:$PATH ends 2 relr16 "$root/samples/pairs.apa1"
+grep -q "no kind 'relr16'" "$out/told" || fail "a wrong kind"
+PATH=$out/bin:$PATH ends 2 apa1 "$out/nothing"
+PATH=$out/bin:$PATH ends 2 apa1
+[ ! -e "$out/called" ] || fail "proved before the arguments were looked at"
+
+# A copy in which the program has changed: it is proved again, and that is told, a line a crate.
+mkdir "$out/copy"
+cp -a "$root/list-table" "$root/crates.txt" "$root/crates" "$root/samples" "$root/target" "$out/copy"
+echo '// changed' >>"$out/copy/crates/list/src/main.rt"
+rm "$out/copy/target/bin/list"
+root=$out/copy ends 0 apa1 "$root/samples/pairs.apa1"
+sed 's/([0-9]* s)/(N s)/' "$out/told" | diff - <(
+    echo "proving and building the program, once; it takes some minutes"
+    echo "list proved (N s)"
+) || fail "what is told while it proves"
+echo "list-table: ok"
