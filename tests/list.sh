@@ -45,10 +45,11 @@ echo "listing program: ok"
 
 fail() { echo "list-table: $1"; exit 1; }
 
-# ./list-table with the arguments after $1 ends with the status $1
+# the command with the arguments after $1 ends with the status $1
+command=$root/list-table
 ends() {
     local status=0
-    "$root/list-table" "${@:2}" >"$out/said" 2>"$out/told" || status=$?
+    "$command" "${@:2}" >"$out/said" 2>"$out/told" || status=$?
     [ "$status" -eq "$1" ] || { cat "$out/told"; fail "status $status for ${*:2}"; }
 }
 
@@ -76,7 +77,8 @@ mkdir "$out/copy"
 cp -a "$root/list-table" "$root/crates.txt" "$root/crates" "$root/samples" "$root/target" "$out/copy"
 echo '// changed' >>"$out/copy/crates/list/src/main.rt"
 rm "$out/copy/target/bin/list"
-root=$out/copy ends 0 apa1 "$root/samples/pairs.apa1"
+command=$out/copy/list-table
+ends 0 apa1 "$root/samples/pairs.apa1"
 sed 's/([0-9]* s)/(N s)/' "$out/told" | diff - <(
     echo "proving and building the program, once; it takes some minutes"
     echo "list proved (N s)"
