@@ -16,7 +16,7 @@ use borrow.Author.Needs.{needs}
 use Rattle.leb128.specs.Number.{isNeg}
 use Rattle.listing.specs.Text.{dash, decimal, decimalSigned}
 use Rattle.listing.specs.Text.Laws.{decimal-one, decimal-more, length-one, length-more, decimal-some, decimal-most, signed-plus, signed-minus}
-use Rattle.listing.specs.Inner.{Puts, Sized}
+use Rattle.listing.specs.Inner.{Prints, Sized}
 use Rattle.listing.proofs.PutNeeds.{put-put}
 
 -- ---- how many digits: n are counted, and the rest has the others
@@ -76,12 +76,11 @@ module _ {old now : List ℕ} {at x k m : ℕ} (w : Writing old now at x k m) wh
         within = omega (arith, w .within, length-more m h);
       }
 
-  pub write-end : {r : ℕ} → m < 10 → Sized x r → Puts old (set now (k - 1) (48 + m)) at (at + r) (decimal x) 20
+  pub write-end : {r : ℕ} → m < 10 → Sized x r → Prints old (set now (k - 1) (48 + m)) at (at + r) (decimal x) 20
   write-end h z =
       let g : k - 1 ≡ at = omega (arith, w .place, length-one m h) in
       record {
-        list = ap (λ (i : ℕ). set now i (48 + m)) g ∙ ap (sets now at) (sym (decimal-one m h)) ∙ w .all;
-        place = omega (arith, z .is);
+        written = record { list = ap (λ (i : ℕ). set now i (48 + m)) g ∙ ap (sets now at) (sym (decimal-one m h)) ∙ w .all; place = omega (arith, z .is) };
         few = omega (arith, z .is, z .most);
       }
 
@@ -95,17 +94,17 @@ pub plain : {x : ℤ} → SFits w64 x → Bits x ≡ x
 plain s = toZ-ofZ {w = w64} s
 
 module _ (x : ℤ) {old new : List ℕ} {at r size : ℕ} {neg : Bool} (s : SFits w64 x) (e : size ≡ mag (Bits x)) (n : neg ≡ isNeg (Bits x)) where
-  pub sign-none : neg ≡ false → Puts old new at r (decimal size) 20 → Puts old new at r (decimalSigned x) 21
-  sign-none f p = let g = same x (e ∙ ap mag (plain s)) (n ∙ ap isNeg (plain s)) f in rw (← g) (record { list = p .list; place = p .place; few = omega (arith, p .few) })
+  pub sign-none : neg ≡ false → Prints old new at r (decimal size) 20 → Prints old new at r (decimalSigned x) 21
+  sign-none f p = let g = same x (e ∙ ap mag (plain s)) (n ∙ ap isNeg (plain s)) f in rw (← g) (record { written = p .written; few = omega (arith, p .few) })
     where
       same : (x : ℤ) → size ≡ mag x → neg ≡ isNeg x → neg ≡ false → decimal size ≡ decimalSigned x
       same (pos k) e n f = ap decimal e ∙ sym (signed-plus k)
       same (negsuc k) e n f = let z : _≡_ {A = ℕ} 0 1 = cc in absurd (omega arith)
 
-  pub sign-some : {mid : List ℕ} {next : ℕ} → neg ≡ true → Puts old mid at next (45 ∷ []) 1 → Puts mid new next r (decimal (size + 1)) 20 → Puts old new at r (decimalSigned x) 21
+  pub sign-some : {mid : List ℕ} {next : ℕ} → neg ≡ true → Prints old mid at next (45 ∷ []) 1 → Prints mid new next r (decimal (size + 1)) 20 → Prints old new at r (decimalSigned x) 21
   sign-some f p q = go x (e ∙ ap mag (plain s)) (n ∙ ap isNeg (plain s)) (put-put p q (omega arith))
     where
-      go : (x : ℤ) → size ≡ mag x → neg ≡ isNeg x → Puts old new at r (dash ++ decimal (size + 1)) 21 → Puts old new at r (decimalSigned x) 21
+      go : (x : ℤ) → size ≡ mag x → neg ≡ isNeg x → Prints old new at r (dash ++ decimal (size + 1)) 21 → Prints old new at r (decimalSigned x) 21
       go (pos k) e n s = let z : _≡_ {A = ℕ} 0 1 = cc in absurd (omega arith)
       go (negsuc k) e n s = rw (signed-minus k, ← e) s
 

@@ -9,11 +9,12 @@ use lib.ListN.{length, take, getD, set, length-append}
 use lib.Seq.{take-suc, take-all, length-take-le, sets, length-sets}
 use borrow.Author.Needs.{needs}
 use Rattle.answer.specs.Outcome.Laws.{sets-append}
-use Rattle.listing.specs.Inner.{Puts}
+use Rattle.answer.specs.Written.{written-then}
+use Rattle.listing.specs.Inner.{Prints}
 
 -- ---- one byte
-pub byte-put : (old : List ℕ) (at b : ℕ) → Puts old (set old at b) at (at + 1) (b ∷ []) 1
-byte-put old at b = record { list = refl; place = refl; few = omega arith }
+pub byte-put : (old : List ℕ) (at b : ℕ) → Prints old (set old at b) at (at + 1) (b ∷ []) 1
+byte-put old at b = record { written = record { list = refl; place = refl }; few = omega arith }
 
 pub ruleset bytes = (byte-put, needs)
 
@@ -48,19 +49,18 @@ module _ {l old now : List ℕ} {at i : ℕ} (p : Putting l old now at i) where
         within = omega arith;
       }
 
-  pub put-end : length l ≤ i → Puts old now at (at + i) l (length l)
+  pub put-end : length l ≤ i → Prints old now at (at + i) l (length l)
   put-end h =
       let e : i ≡ length l = omega (arith, p .within) in
-      record { list = p .is ∙ ap (sets old at) (take-all i l h); place = omega arith; few = omega arith }
+      record { written = record { list = p .is ∙ ap (sets old at) (take-all i l h); place = omega arith }; few = omega arith }
 
 pub ruleset puttings = (put-begin, put-same, put-in, put-more, put-end, needs)
 
 -- ---- one put after another
 pub put-put : {old mid new : List ℕ} {at next past : ℕ} {a b : List ℕ} {m n k : ℕ}
-    → Puts old mid at next a m → Puts mid new next past b n → m + n ≤ k → Puts old new at past (a ++ b) k
-put-put {old} {mid} {new} {at} {next} {past} {a} {b} p q h =
+    → Prints old mid at next a m → Prints mid new next past b n → m + n ≤ k → Prints old new at past (a ++ b) k
+put-put {a = a} {b = b} p q h =
     record {
-      list = q .list ∙ ap (λ (l : List ℕ). sets l next b) (p .list) ∙ ap (λ (i : ℕ). sets (sets old at a) i b) (p .place) ∙ sets-append old at a b;
-      place = omega (arith, p .place, q .place, length-append a b);
+      written = written-then (p .written) (q .written);
       few = omega (arith, p .few, q .few, length-append a b);
     }

@@ -8,11 +8,12 @@ use native.Mathlib.Decide.{decLt}
 use native.Mathlib.Omega.{arith}
 use lib.IntN.{ℤ, pos}
 use lib.ListN.{length, take, drop, getD, length-drop, length-map, List·getD-append, List·getD-map}
-use lib.Seq.{take-all, take-append-seam, sets-eq, length-sets}
+use lib.Seq.{take-all, take-append-seam, sets-eq}
 use borrow.Author.Needs.{needs}
 use Rattle.answer.specs.declared.Answer.{Answer}
 use Rattle.answer.specs.Outcome.{Outcome, accepted, success, answerIn, filled, itself}
 use Rattle.answer.specs.Outcome.Laws.{filled-fits, answer-zero, Succeeded}
+use Rattle.answer.specs.Written.{written-long}
 use Rattle.records.specs.Identifier.{startsWith}
 use Rattle.records.specs.Identifier.Laws.{starts-short}
 use Rattle.relr_table.specs.Contract as relr
@@ -34,7 +35,7 @@ use Rattle.listing.specs.declared.kind.Line.{Line}
 use Rattle.listing.specs.declared.kind.Line.the-variants.{Names, Unknown}
 use Rattle.listing.specs.Text.{decimal, lineOf, tried, firstLine, hasType, hasAddend, offsetRow, pairRow, mapped, rowsOf, header, refusedWord, rowText, rowAt, rowsTo, refusalText, recordLimit, tableLimit, printed, textOf}
 use Rattle.listing.specs.Text.Laws.{answer-mapped, source, offset-line, pair-line, rows-all, printed-rows, printed-refusal, text-unknown, text-limit, text-table}
-use Rattle.listing.specs.Inner.{Puts, Room, Readable, Reads, Shows}
+use Rattle.listing.specs.Inner.{Prints, Room, Readable, Reads, Shows}
 use Rattle.listing.proofs.PutNeeds.{put-put}
 
 abbrev none : Row
@@ -128,8 +129,8 @@ pub ruleset readings = (relr-four, relr-eight, apr1-read, apa1-read, relleb-four
 
 -- ---- a refusal
 pub refusal-put : (n p : ℕ) {p0 p1 p2 p3 p4 p5 : List ℕ} {n1 n2 n3 n4 n5 : ℕ}
-    → Puts p4 p5 n4 n5 (10 ∷ []) 1 → Puts p3 p4 n3 n4 (decimal p) 20 → Puts p2 p3 n2 n3 (9 ∷ []) 1 → Puts p1 p2 n1 n2 (decimal n) 20 → Puts p0 p1 0 n1 refusedWord 8
-    → Puts p0 p5 0 n5 (refusalText n p) 50
+    → Prints p4 p5 n4 n5 (10 ∷ []) 1 → Prints p3 p4 n3 n4 (decimal p) 20 → Prints p2 p3 n2 n3 (9 ∷ []) 1 → Prints p1 p2 n1 n2 (decimal n) 20 → Prints p0 p1 0 n1 refusedWord 8
+    → Prints p0 p5 0 n5 (refusalText n p) 50
 unfolding refusalText
 refusal-put n p a5 a4 a3 a2 a1 =
     put-put {m = 49} (put-put {m = 29} (put-put {m = 28} (put-put a1 a2 (omega arith)) a3 (omega arith)) a4 (omega arith)) a5 (omega arith)
@@ -137,12 +138,12 @@ refusal-put n p a5 a4 a3 a2 a1 =
 pub ruleset refusals = (refusal-put, needs)
 
 -- a text with another bound
-same-puts : {old new t u : List ℕ} {at r m n : ℕ} → Puts old new at r t m → t ≡ u → m ≤ n → Puts old new at r u n
-same-puts p e h = rw (← e) (record { list = p .list; place = p .place; few = omega (arith, p .few) })
+same-puts : {old new t u : List ℕ} {at r m n : ℕ} → Prints old new at r t m → t ≡ u → m ≤ n → Prints old new at r u n
+same-puts p e h = rw (← e) (record { written = p .written; few = omega (arith, p .few) })
 
 -- ---- the text of a table
 module _ (k : Kind) (s : List ℕ) {os ts ys : List ℕ} {us : List ℤ} {r : Answer} (d : Reads k s r os ts ys us) where
-  pub table-refused : {old new : List ℕ} {past : ℕ} → (r .number ≡ 0 → ⊥) → Puts old new 0 past (refusalText (r .number) (r .place)) 50 → Puts old new 0 past (printed k (rowsOf k s)) 131072
+  pub table-refused : {old new : List ℕ} {past : ℕ} → (r .number ≡ 0 → ⊥) → Prints old new 0 past (refusalText (r .number) (r .place)) 50 → Prints old new 0 past (printed k (rowsOf k s)) 131072
   table-refused n p =
       let e = d .answer in
       same-puts p (ap (λ (a : Answer). refusalText (a .number) (a .place)) e ∙ sym (printed-refusal k (rowsOf k s) (λ z. n (ap (λ (a : Answer). a .number) e ∙ z)))) (omega arith)
@@ -163,7 +164,7 @@ module _ (k : Kind) (s : List ℕ) {os ts ys : List ℕ} {us : List ℤ} {r : An
       let f = table-few n in
       record { page = omega arith; offsets = omega arith; types = omega arith; symbols = omega arith; addends = omega arith }
 
-  pub table-listed : {old new : List ℕ} {past : ℕ} → r .number ≡ 0 → Puts old new 0 past (header ++ rowsTo k os ts ys us (r .count)) (29 + 109 * r .count) → Puts old new 0 past (printed k (rowsOf k s)) 131072
+  pub table-listed : {old new : List ℕ} {past : ℕ} → r .number ≡ 0 → Prints old new 0 past (header ++ rowsTo k os ts ys us (r .count)) (29 + 109 * r .count) → Prints old new 0 past (printed k (rowsOf k s)) 131072
   table-listed n p =
       let g = good n in
       let e = counted n in
@@ -176,12 +177,12 @@ module _ (k : Kind) (s : List ℕ) {os ts ys : List ℕ} {us : List ℤ} {r : An
 pub ruleset tables = (table-refused, table-few, table-room, table-listed, needs)
 
 -- ---- the text of an input
-shown : {old page t : List ℕ} {count : ℕ} → Puts old page 0 count t 131072 → 131072 ≤ length old → Shows page count t
+shown : {old page t : List ℕ} {count : ℕ} → Prints old page 0 count t 131072 → 131072 ≤ length old → Shows page count t
 shown {old} {page} {t} {count} p room =
-    let e : count ≡ length t = omega (arith, p .place) in
+    let e : count ≡ length t = omega (arith, p .written .place) in
     record {
-      is = ap (take count) (p .list ∙ sets-eq t old 0 (omega (arith, p .few))) ∙ ap (λ (n : ℕ). take n (t ++ drop (0 + length t) old)) e ∙ take-append-seam t (drop (0 + length t) old);
-      within = omega (arith, p .few, ap length (p .list), length-sets old 0 t);
+      is = ap (take count) (p .written .list ∙ sets-eq t old 0 (omega (arith, p .few))) ∙ ap (λ (n : ℕ). take n (t ++ drop (0 + length t) old)) e ∙ take-append-seam t (drop (0 + length t) old);
+      within = omega (arith, p .few, written-long (p .written));
     }
 
 tried-starts : (s : List ℕ) (j : Kind) (rest : Line) (k : Kind) → tried j s rest ≡ Names k → (rest ≡ Names k → startsWith (lineOf k) s ≡ true) → startsWith (lineOf k) s ≡ true
@@ -209,14 +210,14 @@ module _ (s : List ℕ) {line : Line} {k : Kind} {at : ℕ} (e : line ≡ firstL
   part = take-all (length s - at) (drop at s) (omega (arith, length-drop at s)) ∙ ap (λ (m : ℕ). drop m s) a
 
   module _ {old new : List ℕ} {past : ℕ} (room : 131072 ≤ length old) where
-    pub text-over : tableLimit < length (take (length s - at) (drop at s)) → Puts old new 0 past (refusalText 2 0) 50 → Shows new past (textOf s)
+    pub text-over : tableLimit < length (take (length s - at) (drop at s)) → Prints old new 0 past (refusalText 2 0) 50 → Shows new past (textOf s)
     text-over h p = shown (same-puts p (text-limit s e n (rw part at h)) (omega arith)) room
 
-    pub text-whole : length (take (length s - at) (drop at s)) ≤ tableLimit → Puts old new 0 past (printed k (rowsOf k (take (length s - at) (drop at s)))) 131072 → Shows new past (textOf s)
+    pub text-whole : length (take (length s - at) (drop at s)) ≤ tableLimit → Prints old new 0 past (printed k (rowsOf k (take (length s - at) (drop at s)))) 131072 → Shows new past (textOf s)
     text-whole h p = shown (same-puts p (ap (λ (t : List ℕ). printed k (rowsOf k t)) part ∙ text-table s e n (rw part at h)) (omega arith)) room
 
 pub text-none : (s : List ℕ) {line : Line} {old new : List ℕ} {past : ℕ} → 131072 ≤ length old → line ≡ firstLine s → line ≡ Unknown
-    → Puts old new 0 past (refusalText 1 0) 50 → Shows new past (textOf s)
+    → Prints old new 0 past (refusalText 1 0) 50 → Shows new past (textOf s)
 text-none s room e u p = shown (same-puts p (text-unknown s e u) (omega arith)) room
 
 pub ruleset texts = (line-within, text-over, text-whole, text-none, needs)

@@ -5,17 +5,16 @@ use mathlib.Core.Path.{_≡_}
 use mathlib.Core.List.{List}
 use lib.IntN.{ℤ, pos}
 use lib.ListN.{length, take, getD}
-use lib.Seq.{sets}
 use Rattle.answer.specs.declared.Answer.{Answer}
 use Rattle.answer.specs.Outcome.{accepted, answerIn, filled, itself}
+use Rattle.answer.specs.Written.{Written}
 use Rattle.relleb_table.specs.Table.{Row, row}
 use Rattle.listing.specs.declared.kind.Kind.{Kind}
 use Rattle.listing.specs.Text.{decimal, rowsOf, rowText, rowAt, recordLimit, tableLimit}
 
--- bytes, at most so many, stand at a place of what was old, and next is past them
-pub record Puts (old new : List ℕ) (at next : ℕ) (bytes : List ℕ) (most : ℕ) : Type 0 where
-  pub list : new ≡ sets old at bytes
-  pub place : next ≡ at + length bytes
+-- bytes, at most so many, are written at a place
+pub record Prints (old new : List ℕ) (at next : ℕ) (bytes : List ℕ) (most : ℕ) : Type 0 where
+  pub written : Written old new at next bytes
   pub few : length bytes ≤ most
 
 -- a text stands at the front of a page

@@ -2,7 +2,7 @@
 ghost use Prim.Native.Nat.{_+_, _≤_};
 ghost use lib.ListN.{length};
 ghost use Rattle.listing.specs.Text.{decimal, decimalSigned};
-ghost use Rattle.listing.specs.Inner.{Puts, Sized};
+ghost use Rattle.listing.specs.Inner.{Prints, Sized};
 use crate::page;
 
 // How many digits a number has.
@@ -21,7 +21,7 @@ fn digits(x: u64) -> usize
 // A number, written from its last digit on.
 pub fn put_number(page: &mut [u8], at: usize, x: u64) -> usize
     requires { ⌜ at + 20 ≤ length (now page) ⌝ }
-    ensures { λ r. ⌜ Puts (now (page .entry)) (now (page .exit)) at r (decimal x) 20 ⌝ }
+    ensures { λ r. ⌜ Prints (now (page .entry)) (now (page .exit)) at r (decimal x) 20 ⌝ }
 {
     let next = at + digits(x);
     let mut k = next;
@@ -38,7 +38,7 @@ pub fn put_number(page: &mut [u8], at: usize, x: u64) -> usize
 // A signed number, a negative one behind its sign.
 pub fn put_signed(page: &mut [u8], at: usize, x: i64) -> usize
     requires { ⌜ at + 21 ≤ length (now page) ⌝ }
-    ensures { λ r. ⌜ Puts (now (page .entry)) (now (page .exit)) at r (decimalSigned x) 21 ⌝ }
+    ensures { λ r. ⌜ Prints (now (page .entry)) (now (page .exit)) at r (decimalSigned x) 21 ⌝ }
 {
     let size = leb128::magnitude(x);
     if leb128::is_negative(x) {

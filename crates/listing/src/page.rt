@@ -2,12 +2,12 @@
 ghost use mathlib.Core.List.{[], _∷_};
 ghost use Prim.Native.Nat.{_+_, _≤_};
 ghost use lib.ListN.{length};
-ghost use Rattle.listing.specs.Inner.{Puts};
+ghost use Rattle.listing.specs.Inner.{Prints};
 
 // One byte.
 pub fn put_byte(page: &mut [u8], at: usize, b: u8) -> usize
     requires { ⌜ at + 1 ≤ length (now page) ⌝ }
-    ensures { λ r. ⌜ Puts (now (page .entry)) (now (page .exit)) at r (b ∷ []) 1 ⌝ }
+    ensures { λ r. ⌜ Prints (now (page .entry)) (now (page .exit)) at r (b ∷ []) 1 ⌝ }
 {
     page[at] = b;
     at + 1
@@ -16,7 +16,7 @@ pub fn put_byte(page: &mut [u8], at: usize, b: u8) -> usize
 // Several bytes.
 pub fn put(page: &mut [u8], at: usize, bytes: &[u8]) -> usize
     requires { ⌜ at + length (now bytes) ≤ length (now page) ⌝ }
-    ensures { λ r. ⌜ Puts (now (page .entry)) (now (page .exit)) at r (now (bytes .entry)) (length (now (bytes .entry))) ⌝ }
+    ensures { λ r. ⌜ Prints (now (page .entry)) (now (page .exit)) at r (now (bytes .entry)) (length (now (bytes .entry))) ⌝ }
 {
     let mut i: usize = 0;
     while i < bytes.len() {

@@ -5,7 +5,7 @@ ghost use Prim.Native.Nat.{_+_, _*_, _≤_};
 ghost use lib.ListN.{length};
 ghost use Rattle.relleb_table.specs.Table.{row};
 ghost use Rattle.listing.specs.Text.{decimal, decimalSigned, field, header, rowText, rowsTo};
-ghost use Rattle.listing.specs.Inner.{Puts, Room};
+ghost use Rattle.listing.specs.Inner.{Prints, Room};
 use crate::decimal;
 use crate::kind::Kind;
 use crate::page;
@@ -13,7 +13,7 @@ use crate::page;
 // A field behind a tab: a number, or `-` where the kind has none.
 fn put_field(page: &mut [u8], at: usize, shown: bool, x: u64) -> usize
     requires { ⌜ at + 22 ≤ length (now page) ⌝ }
-    ensures { λ r. ⌜ Puts (now (page .entry)) (now (page .exit)) at r (field shown (decimal x)) 22 ⌝ }
+    ensures { λ r. ⌜ Prints (now (page .entry)) (now (page .exit)) at r (field shown (decimal x)) 22 ⌝ }
 {
     let next = page::put_byte(&mut *page, at, b'\t');
     if shown {
@@ -25,7 +25,7 @@ fn put_field(page: &mut [u8], at: usize, shown: bool, x: u64) -> usize
 // The same for an addend.
 fn put_addend(page: &mut [u8], at: usize, shown: bool, x: i64) -> usize
     requires { ⌜ at + 22 ≤ length (now page) ⌝ }
-    ensures { λ r. ⌜ Puts (now (page .entry)) (now (page .exit)) at r (field shown (decimalSigned x)) 22 ⌝ }
+    ensures { λ r. ⌜ Prints (now (page .entry)) (now (page .exit)) at r (field shown (decimalSigned x)) 22 ⌝ }
 {
     let next = page::put_byte(&mut *page, at, b'\t');
     if shown {
@@ -37,7 +37,7 @@ fn put_addend(page: &mut [u8], at: usize, shown: bool, x: i64) -> usize
 // The index of a line, and its offset.
 fn put_start(page: &mut [u8], at: usize, index: u64, offset: u64) -> usize
     requires { ⌜ at + 42 ≤ length (now page) ⌝ }
-    ensures { λ r. ⌜ Puts (now (page .entry)) (now (page .exit)) at r (decimal index ++ field true (decimal offset)) 42 ⌝ }
+    ensures { λ r. ⌜ Prints (now (page .entry)) (now (page .exit)) at r (decimal index ++ field true (decimal offset)) 42 ⌝ }
 {
     let next = decimal::put_number(&mut *page, at, index);
     put_field(page, next, true, offset)
@@ -46,7 +46,7 @@ fn put_start(page: &mut [u8], at: usize, index: u64, offset: u64) -> usize
 // The type and the symbol of a line.
 fn put_types(page: &mut [u8], at: usize, shown: bool, rtype: u64, symbol: u64) -> usize
     requires { ⌜ at + 44 ≤ length (now page) ⌝ }
-    ensures { λ r. ⌜ Puts (now (page .entry)) (now (page .exit)) at r (field shown (decimal rtype) ++ field shown (decimal symbol)) 44 ⌝ }
+    ensures { λ r. ⌜ Prints (now (page .entry)) (now (page .exit)) at r (field shown (decimal rtype) ++ field shown (decimal symbol)) 44 ⌝ }
 {
     let next = put_field(&mut *page, at, shown, rtype);
     put_field(page, next, shown, symbol)
@@ -64,7 +64,7 @@ fn put_row(
     addend: i64,
 ) -> usize
     requires { ⌜ at + 109 ≤ length (now page) ⌝ }
-    ensures { λ r. ⌜ Puts (now (page .entry)) (now (page .exit)) at r (rowText kind index (row offset rtype symbol addend)) 109 ⌝ }
+    ensures { λ r. ⌜ Prints (now (page .entry)) (now (page .exit)) at r (rowText kind index (row offset rtype symbol addend)) 109 ⌝ }
 {
     let typed = kind.has_type();
     let signed = kind.has_addend();
@@ -86,7 +86,7 @@ fn put_rows(
     addends: &[i64],
 ) -> usize
     requires { ⌜ Room (now page) at count (now offsets) (now types) (now symbols) (now addends) ⌝ }
-    ensures { λ r. ⌜ Puts (now (page .entry)) (now (page .exit)) at r (rowsTo kind (now (offsets .entry)) (now (types .entry)) (now (symbols .entry)) (now (addends .entry)) count) (109 * count) ⌝ }
+    ensures { λ r. ⌜ Prints (now (page .entry)) (now (page .exit)) at r (rowsTo kind (now (offsets .entry)) (now (types .entry)) (now (symbols .entry)) (now (addends .entry)) count) (109 * count) ⌝ }
 {
     let mut next = at;
     let mut i: usize = 0;
@@ -121,7 +121,7 @@ pub fn put_list(
     addends: &[i64],
 ) -> usize
     requires { ⌜ Room (now page) 29 count (now offsets) (now types) (now symbols) (now addends) ⌝ }
-    ensures { λ r. ⌜ Puts (now (page .entry)) (now (page .exit)) 0 r (header ++ rowsTo kind (now (offsets .entry)) (now (types .entry)) (now (symbols .entry)) (now (addends .entry)) count) (29 + 109 * count) ⌝ }
+    ensures { λ r. ⌜ Prints (now (page .entry)) (now (page .exit)) 0 r (header ++ rowsTo kind (now (offsets .entry)) (now (types .entry)) (now (symbols .entry)) (now (addends .entry)) count) (29 + 109 * count) ⌝ }
 {
     let at = page::put(&mut *page, 0, b"no\toffset\ttype\tsymbol\taddend\n");
     put_rows(page, at, kind, count, offsets, types, symbols, addends)

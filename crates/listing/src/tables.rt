@@ -2,7 +2,7 @@
 ghost use Prim.Native.Nat.{_≤_};
 ghost use lib.ListN.{length};
 ghost use Rattle.listing.specs.Text.{printed, rowsOf, refusalText, tableLimit, textOf};
-ghost use Rattle.listing.specs.Inner.{Puts, Readable, Reads, Shows};
+ghost use Rattle.listing.specs.Inner.{Prints, Readable, Reads, Shows};
 use crate::decimal;
 use crate::kind;
 use crate::kind::Kind;
@@ -43,7 +43,7 @@ fn read(
 // The line of a refusal.
 fn put_refusal(page: &mut [u8], number: u32, place: u64) -> usize
     requires { ⌜ 50 ≤ length (now page) ⌝ }
-    ensures { λ r. ⌜ Puts (now (page .entry)) (now (page .exit)) 0 r (refusalText number place) 50 ⌝ }
+    ensures { λ r. ⌜ Prints (now (page .entry)) (now (page .exit)) 0 r (refusalText number place) 50 ⌝ }
 {
     let after_word = page::put(&mut *page, 0, b"refused\t");
     let after_number = decimal::put_number(&mut *page, after_word, number as u64);
@@ -55,7 +55,7 @@ fn put_refusal(page: &mut [u8], number: u32, place: u64) -> usize
 // The text of a table of at most 16,384 bytes.
 fn put_table(page: &mut [u8], kind: Kind, table: &[u8]) -> usize
     requires { ⌜ (length (now table) ≤ tableLimit) × (131072 ≤ length (now page)) ⌝ }
-    ensures { λ r. ⌜ Puts (now (page .entry)) (now (page .exit)) 0 r (printed kind (rowsOf kind (now (table .entry)))) 131072 ⌝ }
+    ensures { λ r. ⌜ Prints (now (page .entry)) (now (page .exit)) 0 r (printed kind (rowsOf kind (now (table .entry)))) 131072 ⌝ }
 {
     let mut offsets = [0u64; RECORD_LIMIT];
     let mut types = [0u32; RECORD_LIMIT];
