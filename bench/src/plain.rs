@@ -1,9 +1,10 @@
 //! The calls of plain.c.
 
-use reference::corpus::case::{
-    APA1_READ, APA1_WRITE, APR1_READ, APR1_WRITE, Case, RELLEB_READ, RELLEB_WRITE, RELR_APPLY,
-    RELR_READ, RELR_WRITE,
+use reference::corpus::calls::{
+    APA1_READ, APA1_WRITE, APR1_READ, APR1_WRITE, RELLEB_READ, RELLEB_WRITE, RELR_APPLY, RELR_READ,
+    RELR_WRITE,
 };
+use reference::corpus::case::Case;
 
 // The functions of plain.c.
 unsafe extern "C" {

@@ -1,10 +1,11 @@
 //! The call of a case, made by each program on the case's own buffers.
 
 use crate::{baseline, plain};
-use reference::corpus::case::{
-    APA1_READ, APA1_WRITE, APR1_READ, APR1_WRITE, Case, RELLEB_READ, RELLEB_WRITE, RELR_APPLY,
-    RELR_READ, RELR_WRITE,
+use reference::corpus::calls::{
+    APA1_READ, APA1_WRITE, APR1_READ, APR1_WRITE, RELLEB_READ, RELLEB_WRITE, RELR_APPLY, RELR_READ,
+    RELR_WRITE,
 };
+use reference::corpus::case::Case;
 use reloc::Refusal;
 
 /// A program: it makes the call of a case and leaves the results in it.
@@ -49,6 +50,7 @@ pub(crate) fn c(case: &mut Case) -> Result<usize, Refusal> {
 
 /// The slow reference, which is not measured.
 pub fn reference(case: &mut Case) -> Result<usize, Refusal> {
+    case.check_settings();
     let answer = call!(case, reference);
     match answer.number {
         0 => Ok(answer.count as usize),

@@ -1,9 +1,9 @@
 //! What is measured: a row is a call on tables or lists of one shape, of any number of records.
 
-use reference::corpus::case::{
-    APA1_READ, APA1_WRITE, APR1_READ, APR1_WRITE, Case, FILL, RELLEB_READ, RELLEB_WRITE, RELR_READ,
-    RELR_WRITE,
+use reference::corpus::calls::{
+    APA1_READ, APA1_WRITE, APR1_READ, APR1_WRITE, RELLEB_READ, RELLEB_WRITE, RELR_READ, RELR_WRITE,
 };
+use reference::corpus::case::{Case, FILL};
 use reference::corpus::rng::Rng;
 use reference::corpus::tables::relr_bytes;
 

@@ -1,6 +1,10 @@
 //! The corpus and its format.
 
-use reference::corpus::case::{Case, NAMES, RELR_READ, decode, fnv1a};
+use reference::corpus::calls::{
+    APA1_READ, APA1_WRITE, APR1_READ, APR1_WRITE, CALLS, Call, NUMBERS, RELLEB_READ, RELLEB_WRITE,
+    RELR_APPLY, RELR_READ, RELR_WRITE, Shape,
+};
+use reference::corpus::case::{Case, decode, fnv1a};
 use reference::corpus::{Named, all, hand, long, pairs};
 use reference::published;
 
@@ -39,13 +43,46 @@ fn every_call_has_its_limit() {
 fn every_allowed_pair_is_there() {
     let by_hand = pairs::counts(&hand::cases());
     let counts = pairs::counts(&all());
-    for call in 0..NAMES.len() {
-        for number in 1..16 {
-            let allowed = pairs::ALLOWED[call].contains(&(number as u32)) && number != 2;
-            assert_eq!(by_hand[call][number] > 0, allowed, "{} {number}", NAMES[call]);
-            assert_eq!(counts[call][number] > 0, allowed, "{} {number}", NAMES[call]);
+    for (code, call) in CALLS.iter().enumerate() {
+        for number in 1..NUMBERS {
+            let allowed = call.refusals.contains(&(number as u32)) && number != 2;
+            assert_eq!(by_hand[code][number] > 0, allowed, "{} {number}", call.name);
+            assert_eq!(counts[code][number] > 0, allowed, "{} {number}", call.name);
         }
     }
+}
+
+/// A code is the row of its call.
+#[test]
+fn codes() {
+    let codes = [
+        (RELR_READ, "relr_read"),
+        (RELR_WRITE, "relr_write"),
+        (RELR_APPLY, "relr_apply"),
+        (APR1_READ, "apr1_read"),
+        (APR1_WRITE, "apr1_write"),
+        (APA1_READ, "apa1_read"),
+        (APA1_WRITE, "apa1_write"),
+        (RELLEB_READ, "relleb_read"),
+        (RELLEB_WRITE, "relleb_write"),
+    ];
+    assert_eq!(codes.map(|(_, name)| name)[..], CALLS.iter().map(|c| c.name).collect::<Vec<_>>());
+    codes.iter().for_each(|(code, name)| assert_eq!(Call::of(*code).name, *name));
+}
+
+/// The page of counts has columns up to the highest number that is allowed,
+/// which may be 31.
+#[test]
+fn page_up_to_the_last_number() {
+    let (settings, columns) = (&[], [false; 4]);
+    let call = Call { name: "some", shape: Shape::Read, settings, columns, refusals: &[2, 31] };
+    let mut counts = [0; NUMBERS];
+    counts[31] = 5;
+    let table = pairs::table(&[call], &[counts]);
+    let lines: Vec<&str> = table.lines().collect();
+    assert!(lines[0].ends_with(" 29 | 30 | 31 | all |"));
+    assert_eq!(lines[1], format!("|---|{}", "---:|".repeat(33)));
+    assert_eq!(lines[2], format!("| some | 0 | · | 0 |{} 5 | 5 |", " · |".repeat(28)));
 }
 
 #[test]

@@ -1,7 +1,7 @@
 //! Refusals: every hand-made case, what stays untouched, and the limits of
 //! length.
 
-use reference::corpus::case::{Case, is_write};
+use reference::corpus::case::Case;
 use reference::corpus::{all, hand};
 use reference::{
     Answer, MOST_INPUT, MOST_LIST, apa1_read, apa1_write, apr1_read, apr1_write, relleb_read,
@@ -40,7 +40,7 @@ fn untouched() {
 
 fn assert_beyond(before: &Case, after: &Case, count: usize) {
     assert_eq!(after.input, before.input);
-    if is_write(before.call) {
+    if before.is_write() {
         assert_eq!(after.bytes[count..], before.bytes[count..]);
         assert_eq!(&Case { bytes: before.bytes.clone(), ..after.clone() }, before);
         return;

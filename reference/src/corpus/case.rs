@@ -1,32 +1,14 @@
 //! One call of the corpus: its bytes, its running, its expected line. The
 //! format is told in FORMAT.md.
 
+use super::calls::{
+    APA1_READ, APA1_WRITE, APR1_READ, APR1_WRITE, Call, RELLEB_READ, RELLEB_WRITE, RELR_APPLY,
+    RELR_READ, RELR_WRITE, Setting, Shape,
+};
 use crate::{
     Answer, apa1_read, apa1_write, apr1_read, apr1_write, relleb_read, relleb_write, relr_apply,
     relr_read, relr_write,
 };
-
-pub const RELR_READ: u8 = 0;
-pub const RELR_WRITE: u8 = 1;
-pub const RELR_APPLY: u8 = 2;
-pub const APR1_READ: u8 = 3;
-pub const APR1_WRITE: u8 = 4;
-pub const APA1_READ: u8 = 5;
-pub const APA1_WRITE: u8 = 6;
-pub const RELLEB_READ: u8 = 7;
-pub const RELLEB_WRITE: u8 = 8;
-
-pub const NAMES: [&str; 9] = [
-    "relr_read",
-    "relr_write",
-    "relr_apply",
-    "apr1_read",
-    "apr1_write",
-    "apa1_read",
-    "apa1_write",
-    "relleb_read",
-    "relleb_write",
-];
 
 /// In a call's code: the input is all zeros, and the file has its length alone.
 const LONG: u8 = 128;
@@ -48,10 +30,6 @@ pub struct Case {
     pub symbols: Vec<u32>,
     pub addends: Vec<i64>,
     pub bytes: Vec<u8>,
-}
-
-pub fn is_write(call: u8) -> bool {
-    [RELR_WRITE, APR1_WRITE, APA1_WRITE, RELLEB_WRITE].contains(&call)
 }
 
 impl Case {
@@ -84,11 +62,7 @@ impl Case {
 
     /// A read with `room` in each column that the call has.
     pub fn read_into(call: u8, class: u32, table: &[u8], room: usize) -> Case {
-        let rooms = match call {
-            APA1_READ => [room, 0, 0, room],
-            RELLEB_READ => [room; 4],
-            _ => [room, 0, 0, 0],
-        };
+        let rooms = Call::of(call).columns.map(|has| if has { room } else { 0 });
         Case::read(call, class, table, rooms)
     }
 
@@ -121,9 +95,28 @@ impl Case {
         }
     }
 
+    /// The row of the case's call.
+    pub fn call(&self) -> &'static Call {
+        Call::of(self.call)
+    }
+
+    pub fn is_write(&self) -> bool {
+        self.call().shape == Shape::Write
+    }
+
+    /// Panics on a setting that the call doesn't take, so that no test believes
+    /// it was tried.
+    pub fn check_settings(&self) {
+        let set = [(Setting::Class, self.class != 0), (Setting::Base, self.base != 0)];
+        for (setting, set) in set {
+            assert!(!set || self.call().takes(setting), "{} has no {setting:?}", self.call().name);
+        }
+    }
+
     /// The answer of the call, and the case with what it left in the lent
     /// buffers.
     pub fn run(&self) -> (Answer, Case) {
+        self.check_settings();
         let mut c = self.clone();
         let (o, t, s, a) = (&mut c.offsets, &mut c.types, &mut c.symbols, &mut c.addends);
         let answer = match self.call {
@@ -145,7 +138,7 @@ impl Case {
     /// table of a write, the image of an apply.
     pub fn output(&self) -> Vec<u8> {
         let mut out = Vec::new();
-        if !is_write(self.call) {
+        if !self.is_write() {
             self.put_columns(&mut out);
         }
         out.extend_from_slice(&self.bytes);
@@ -184,13 +177,13 @@ impl Case {
         put_u32(self.types.len(), out);
         put_u32(self.symbols.len(), out);
         put_u32(self.addends.len(), out);
-        if is_write(self.call) {
+        if self.is_write() {
             let mut columns = Vec::new();
             self.put_columns(&mut columns);
             put_given(&columns, long, out);
         }
         put_u32(self.bytes.len(), out);
-        if self.call == RELR_APPLY {
+        if self.call().shape == Shape::Apply {
             out.extend_from_slice(&self.bytes);
         }
     }
@@ -267,20 +260,20 @@ impl From<'_> {
         let rooms = [self.size(), self.size(), self.size(), self.size()];
         let mut case = Case::read(call, class, &input, rooms);
         case.base = base;
-        if is_write(call) && long {
+        if case.is_write() && long {
             case.offsets.fill(0);
             case.types.fill(0);
             case.symbols.fill(0);
             case.addends.fill(0);
-        } else if is_write(call) {
+        } else if case.is_write() {
             case.offsets = (0..rooms[0]).map(|_| self.u64()).collect();
             case.types = (0..rooms[1]).map(|_| self.u32()).collect();
             case.symbols = (0..rooms[2]).map(|_| self.u32()).collect();
             case.addends = (0..rooms[3]).map(|_| self.u64() as i64).collect();
         }
         let length = self.size();
-        case.bytes = match call {
-            RELR_APPLY => self.take(length).to_vec(),
+        case.bytes = match case.call().shape {
+            Shape::Apply => self.take(length).to_vec(),
             _ => vec![FILL; length],
         };
         case

@@ -1,10 +1,11 @@
 //! Swept and generated cases.
 
 use super::Named;
-use super::case::{
-    APA1_READ, APA1_WRITE, APR1_READ, APR1_WRITE, Case, FILL, NAMES, RELLEB_READ, RELLEB_WRITE,
-    RELR_READ, RELR_WRITE,
+use super::calls::{
+    APA1_READ, APA1_WRITE, APR1_READ, APR1_WRITE, Call, RELLEB_READ, RELLEB_WRITE, RELR_READ,
+    RELR_WRITE,
 };
+use super::case::{Case, FILL};
 use super::rng::Rng;
 use super::tables::{join, padded, relr_bytes};
 use crate::leb::Kind::{self, Signed, Unsigned};
@@ -38,7 +39,7 @@ pub fn sweeps() -> Vec<Named> {
             ("signed 64", APA1_READ, 0, s64),
         ];
         for (kind, call, class, table) in tables {
-            let name = format!("{} {kind} last byte {byte}", NAMES[call as usize]);
+            let name = format!("{} {kind} last byte {byte}", Call::of(call).name);
             let case = Case::read_into(call, class, &table, 2);
             cases.push(Named { name, case });
         }
@@ -68,7 +69,7 @@ pub fn generated() -> Vec<Named> {
 fn long_reads(call: u8, class: u32, table: &[u8], cases: &mut Vec<Named>) {
     let need = need(&Case::read_into(call, class, table, AMPLE));
     for room in [need, need - 1, 0] {
-        let name = format!("{} class {class} long, room {room} of {need}", NAMES[call as usize]);
+        let name = format!("{} class {class} long, room {room} of {need}", Call::of(call).name);
         let case = Case::read_into(call, class, table, room);
         cases.push(Named { name, case });
     }
@@ -119,7 +120,7 @@ fn one_of_each(rng: &mut Rng, size: usize, round: usize, cases: &mut Vec<Named>)
         relleb_write(rng, class, size),
     ];
     for case in made {
-        let call = NAMES[case.call as usize];
+        let call = case.call().name;
         let name = format!("{call} generated {round}");
         cases.push(Named { name, case });
     }

@@ -1,6 +1,7 @@
 //! Hand-made cases of APA1.
 
-use super::case::{APA1_READ, APA1_WRITE, Case};
+use super::calls::{APA1_READ, APA1_WRITE};
+use super::case::Case;
 use super::hand::{Hand, hand, rooms};
 use super::tables::join;
 

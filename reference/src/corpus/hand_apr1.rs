@@ -1,6 +1,7 @@
 //! Hand-made cases of APR1.
 
-use super::case::{APR1_READ, APR1_WRITE, Case};
+use super::calls::{APR1_READ, APR1_WRITE};
+use super::case::Case;
 use super::hand::{Hand, hand, rooms};
 use super::tables::join;
 

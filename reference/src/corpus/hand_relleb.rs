@@ -1,6 +1,7 @@
 //! Hand-made cases of RELLEB.
 
-use super::case::{Case, RELLEB_READ, RELLEB_WRITE};
+use super::calls::{RELLEB_READ, RELLEB_WRITE};
+use super::case::Case;
 use super::hand::{Hand, hand, rooms};
 use super::tables::join;
 

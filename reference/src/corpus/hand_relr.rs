@@ -1,6 +1,7 @@
 //! Hand-made cases of RELR.
 
-use super::case::{Case, RELR_READ, RELR_WRITE};
+use super::calls::{RELR_READ, RELR_WRITE};
+use super::case::Case;
 use super::hand::{Hand, hand, rooms};
 use super::tables::relr_bytes;
 

@@ -2,10 +2,11 @@
 //! bytes, so that the file holds its length alone.
 
 use super::Named;
-use super::case::{
-    APA1_READ, APA1_WRITE, APR1_READ, APR1_WRITE, Case, RELLEB_READ, RELLEB_WRITE, RELR_READ,
+use super::calls::{
+    APA1_READ, APA1_WRITE, APR1_READ, APR1_WRITE, Call, RELLEB_READ, RELLEB_WRITE, RELR_READ,
     RELR_WRITE,
 };
+use super::case::Case;
 use super::hand::{Hand, hand, named};
 use crate::{MOST_INPUT, MOST_LIST};
 
@@ -56,16 +57,11 @@ fn apply(class: u32, want: (u32, u64, u64)) -> [Hand; 2] {
 }
 
 fn write(call: u8, class: u32, want: (u32, u64, u64)) -> [Hand; 2] {
+    let [_, types, symbols, addends] = Call::of(call).columns.map(usize::from);
     let case = |length| {
         let case = Case::write(call, class, &vec![0; length], 16);
-        match call {
-            APA1_WRITE => case.with_addends(&vec![0; length]),
-            RELLEB_WRITE => {
-                let zeros = vec![0; length];
-                case.with_types(&zeros).with_symbols(&zeros).with_addends(&vec![0; length])
-            }
-            _ => case,
-        }
+        let case = case.with_types(&vec![0; types * length]);
+        case.with_symbols(&vec![0; symbols * length]).with_addends(&vec![0; addends * length])
     };
     both(case, MOST_LIST, want)
 }

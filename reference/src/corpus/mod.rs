@@ -1,5 +1,6 @@
 //! The corpus: calls with the answers expected of them.
 
+pub mod calls;
 pub mod case;
 pub mod generate;
 pub mod hand;

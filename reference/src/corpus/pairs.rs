@@ -1,25 +1,11 @@
 //! The Markdown table of calls and refusal numbers.
 
 use super::Named;
-use super::case::NAMES;
-
-/// The refusals that document 01 allows to each call, in the order of the
-/// call codes.
-pub const ALLOWED: [&[u32]; 9] = [
-    &[1, 2, 4, 6, 7, 9],
-    &[1, 2, 6, 7, 9, 10],
-    &[1, 2, 4, 6, 7, 12, 15],
-    &[2, 3, 4, 5, 7, 8, 9],
-    &[2, 6, 7, 9, 13],
-    &[2, 3, 4, 5, 8, 9, 11],
-    &[2, 9, 11],
-    &[1, 2, 4, 5, 8, 9, 11],
-    &[1, 2, 7, 9, 11, 14],
-];
+use super::calls::{CALLS, Call, NUMBERS};
 
 /// How many cases of each call end in each number.
-pub fn counts(cases: &[Named]) -> [[usize; 16]; 9] {
-    let mut counts = [[0; 16]; 9];
+pub fn counts(cases: &[Named]) -> Vec<[usize; NUMBERS]> {
+    let mut counts = vec![[0; NUMBERS]; CALLS.len()];
     for named in cases {
         let (answer, _) = named.case.run();
         counts[named.case.call as usize][answer.number as usize] += 1;
@@ -38,24 +24,25 @@ pub fn markdown(all: &[Named], by_hand: &[Named], long: &[Named]) -> String {
         ("Of these hand-made, each with its answer worked out", by_hand),
         ("Long cases: at a limit of length, and one over it", long),
     ] {
-        text += &format!("\n## {heading}\n\n{}", table(cases));
+        text += &format!("\n## {heading}\n\n{}", table(CALLS, &counts(cases)));
     }
     text
 }
 
-/// One row per call, one column per number.
-fn table(cases: &[Named]) -> String {
-    let counts = counts(cases);
+/// One row per call, one column per number up to the highest that any call is
+/// allowed.
+pub fn table(calls: &[Call], counts: &[[usize; NUMBERS]]) -> String {
+    let columns = 1 + calls.iter().flat_map(|call| call.refusals).max().map_or(0, |n| *n as usize);
     let mut text = String::from("| call |");
-    for number in 0..16 {
+    for number in 0..columns {
         text += &format!(" {number} |");
     }
     text += " all |\n|---|";
-    text += &"---:|".repeat(17);
+    text += &"---:|".repeat(columns + 1);
     text += "\n";
-    for (call, row) in counts.iter().enumerate() {
-        text += &format!("| {} |", NAMES[call]);
-        for (number, count) in row.iter().enumerate() {
+    for (call, row) in calls.iter().zip(counts) {
+        text += &format!("| {} |", call.name);
+        for (number, count) in row[..columns].iter().enumerate() {
             text += &format!(" {} |", cell(call, number as u32, *count));
         }
         text += &format!(" {} |\n", row.iter().sum::<usize>());
@@ -63,8 +50,8 @@ fn table(cases: &[Named]) -> String {
     text
 }
 
-fn cell(call: usize, number: u32, count: usize) -> String {
-    if count == 0 && number != 0 && !ALLOWED[call].contains(&number) {
+fn cell(call: &Call, number: u32, count: usize) -> String {
+    if count == 0 && number != 0 && !call.refusals.contains(&number) {
         return String::from("·");
     }
     count.to_string()

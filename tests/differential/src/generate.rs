@@ -1,10 +1,11 @@
 //! Cases from random numbers: well-formed, damaged and cut tables, legal and
 //! illegal lists, too small rooms, columns of different lengths.
 
-use reference::corpus::case::{
-    APA1_READ, APA1_WRITE, APR1_READ, APR1_WRITE, Case, FILL, RELLEB_READ, RELLEB_WRITE,
-    RELR_APPLY, RELR_READ, RELR_WRITE, is_write,
+use reference::corpus::calls::{
+    APA1_READ, APA1_WRITE, APR1_READ, APR1_WRITE, CALLS, Call, RELLEB_READ, RELLEB_WRITE,
+    RELR_APPLY, RELR_READ, RELR_WRITE, Setting,
 };
+use reference::corpus::case::{Case, FILL};
 use reference::corpus::rng::Rng;
 use reference::corpus::tables::{padded, relr_bytes};
 use reference::leb::Kind::{self, Signed, Unsigned};
@@ -16,8 +17,9 @@ const MOST_ROOM: u64 = 5_000;
 const APR1_TOP: u64 = 0xFFFF_FFFC;
 
 pub fn case(rng: &mut Rng) -> Case {
-    let call = rng.below(9) as u8;
-    let class = rng.pick(&[4, 8]);
+    let call = rng.index(CALLS.len()) as u8;
+    let has_class = Call::of(call).takes(Setting::Class);
+    let class = if has_class { rng.pick(&[4, 8]) } else { 0 };
     let size = match rng.below(40) {
         0 => rng.index(300),
         1..=4 => rng.index(50),
@@ -31,7 +33,7 @@ pub fn case(rng: &mut Rng) -> Case {
         _ => Case::read_into(call, class, &table(rng, call, class, size), 0),
     };
     lend(rng, &mut case);
-    if rng.once_in(30) {
+    if has_class && rng.once_in(30) {
         case.class = if rng.once_in(2) { rng.below(17) as u32 } else { rng.draw() as u32 };
     }
     if rng.once_in(16) {
@@ -55,7 +57,7 @@ fn lend(rng: &mut Rng, case: &mut Case) {
         4..=6 => need,
         _ => need + rng.index(10),
     };
-    if is_write(case.call) {
+    if case.is_write() {
         case.bytes = vec![FILL; room];
     } else {
         *case = Case::read_into(case.call, case.class, &case.input, room);

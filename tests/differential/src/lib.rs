@@ -2,10 +2,11 @@
 
 pub mod generate;
 
-use reference::corpus::case::{
-    APA1_READ, APA1_WRITE, APR1_READ, APR1_WRITE, Case, FILL, RELLEB_READ, RELLEB_WRITE,
-    RELR_APPLY, RELR_READ, RELR_WRITE,
+use reference::corpus::calls::{
+    APA1_READ, APA1_WRITE, APR1_READ, APR1_WRITE, RELLEB_READ, RELLEB_WRITE, RELR_APPLY, RELR_READ,
+    RELR_WRITE,
 };
+use reference::corpus::case::{Case, FILL};
 use reloc::Refusal;
 
 /// What a call answered and left behind.
@@ -28,6 +29,7 @@ pub fn by_reference(case: &Case) -> Run {
 }
 
 pub fn by_library(case: &Case) -> Run {
+    case.check_settings();
     // The guard before each buffer varies, and the alignment of bytes with it.
     let lead = 1 + (case.input.len() + case.offsets.len() + case.bytes.len()) % 8;
     let mut input = Guarded::new(&case.input, lead, FILL);

@@ -3,7 +3,7 @@
 //! the seed, which is printed first.
 
 use differential::{by_library, by_reference, generate};
-use reference::corpus::case::NAMES;
+use reference::corpus::calls::{CALLS, NUMBERS};
 use reference::corpus::rng::Rng;
 use std::process::ExitCode;
 use std::time::{Duration, Instant, SystemTime, UNIX_EPOCH};
@@ -16,13 +16,13 @@ fn main() -> ExitCode {
     println!("seed {seed}");
     let end = Instant::now() + Duration::from_secs(seconds);
     let mut rng = Rng::new(seed);
-    let mut seen = [[0u64; 16]; 9];
+    let mut seen = vec![[0u64; NUMBERS]; CALLS.len()];
     let mut cases = 0u64;
     while Instant::now() < end {
         let case = generate::case(&mut rng);
         let (want, got) = (by_reference(&case), by_library(&case));
         if want != got {
-            println!("difference in case {cases}, {}: {case:02x?}", NAMES[case.call as usize]);
+            println!("difference in case {cases}, {}: {case:02x?}", case.call().name);
             for (name, run) in [("reference", want), ("library", got)] {
                 println!("{name}: {:?}, kept inside the buffers: {}", run.result, run.inside);
                 println!("{name} leaves {:02x?}", run.after);
@@ -33,8 +33,8 @@ fn main() -> ExitCode {
         seen[case.call as usize][number as usize] += 1;
         cases += 1;
     }
-    for (name, row) in NAMES.iter().zip(seen) {
-        print!("{name}:");
+    for (call, row) in CALLS.iter().zip(seen) {
+        print!("{}:", call.name);
         for (number, count) in row.iter().enumerate().filter(|(_, count)| **count > 0) {
             print!(" {number}x{count}");
         }

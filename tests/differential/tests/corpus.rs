@@ -1,9 +1,9 @@
 //! The reference's corpus, and whether the random cases meet every refusal.
 
 use differential::{by_library, by_reference, generate};
-use reference::corpus::case::NAMES;
+use reference::corpus::calls::{CALLS, NUMBERS};
 use reference::corpus::rng::Rng;
-use reference::corpus::{all, long, pairs};
+use reference::corpus::{all, long};
 
 #[test]
 fn corpus() {
@@ -16,14 +16,14 @@ fn corpus() {
 #[test]
 fn every_refusal_is_met() {
     let mut rng = Rng::new(1);
-    let mut seen = [[false; 16]; 9];
+    let mut seen = vec![[false; NUMBERS]; CALLS.len()];
     for _ in 0..20_000 {
         let case = generate::case(&mut rng);
         seen[case.call as usize][case.run().0.number as usize] = true;
     }
-    for (call, allowed) in pairs::ALLOWED.iter().enumerate() {
-        for number in allowed.iter().filter(|number| **number != 2) {
-            assert!(seen[call][*number as usize], "{} never met {number}", NAMES[call]);
+    for (call, seen) in CALLS.iter().zip(seen) {
+        for number in call.refusals.iter().filter(|number| **number != 2) {
+            assert!(seen[*number as usize], "{} never met {number}", call.name);
         }
     }
 }

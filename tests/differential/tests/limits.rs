@@ -1,10 +1,10 @@
 //! Tables and lists at their limits and one over, against the reference.
 
 use differential::{by_library, by_reference};
-use reference::corpus::case::{
-    APA1_READ, APA1_WRITE, APR1_READ, APR1_WRITE, Case, FILL, NAMES, RELLEB_READ, RELLEB_WRITE,
-    RELR_READ, RELR_WRITE,
+use reference::corpus::calls::{
+    APA1_READ, APA1_WRITE, APR1_READ, APR1_WRITE, RELLEB_READ, RELLEB_WRITE, RELR_READ, RELR_WRITE,
 };
+use reference::corpus::case::{Case, FILL};
 use reference::corpus::tables::{number, padded, relr_bytes};
 use reference::leb::Kind::{self, Signed, Unsigned};
 use reloc::{INPUT_LIMIT, LIST_LIMIT, Refusal};
@@ -22,7 +22,7 @@ fn needs(need: usize) -> Result<usize, Refusal> {
 /// The library answers so, and does as the reference does.
 fn check(case: &Case, answer: Result<usize, Refusal>) {
     let (want, got) = (by_reference(case), by_library(case));
-    let name = NAMES[case.call as usize];
+    let name = case.call().name;
     assert_eq!(got.result, answer, "{name} class {}", case.class);
     assert_eq!(want.result, answer, "{name} class {}, reference", case.class);
     assert!(got == want, "{name} class {}: buffers differ", case.class);
