@@ -7,6 +7,7 @@ use reference::corpus::calls::{
 use reference::corpus::case::{Case, decode, fnv1a};
 use reference::corpus::{Named, all, hand, long, pairs};
 use reference::published;
+use std::panic::catch_unwind;
 
 fn decoding_gives_back(cases: &[Named], most: usize) {
     let mut file = Vec::new();
@@ -93,6 +94,8 @@ fn one_case_byte_by_byte() {
     let want = [
         &[0u8][..],
         &[4, 0, 0, 0],
+        &[0, 0],
+        &[0; 8],
         &[0; 8],
         &[4, 0, 0, 0, 1, 2, 3, 4],
         &[5, 0, 0, 0, 0, 0, 0, 0, 0, 0, 0, 0, 0, 0, 0, 0],
@@ -100,6 +103,39 @@ fn one_case_byte_by_byte() {
     ]
     .concat();
     assert_eq!(bytes, want);
+}
+
+/// Cases with each setting set, and with all.
+fn with_settings() -> [Case; 5] {
+    let case = || Case::read_into(APR1_READ, 0, b"APR1\0\0", 1);
+    let apply = Case::apply(8, &[0; 8], u64::MAX - 1, &[7; 9]);
+    [
+        Case { big: true, ..case() },
+        Case { strict: true, ..case() },
+        Case { start: u64::MAX, ..case() },
+        Case { base: 1 << 63, ..case() },
+        Case { big: true, strict: true, start: 0x0123_4567_89AB_CDEF, ..apply },
+    ]
+}
+
+#[test]
+fn settings_are_kept() {
+    let mut file = Vec::new();
+    with_settings().iter().for_each(|case| case.encode(&mut file));
+    assert_eq!(decode(&file), with_settings());
+    let mut last = Vec::new();
+    with_settings()[4].encode(&mut last);
+    assert_eq!(last[..7], [RELR_APPLY, 8, 0, 0, 0, 1, 1]);
+    assert_eq!(last[7..15], (u64::MAX - 1).to_le_bytes());
+    assert_eq!(last[15..23], 0x0123_4567_89AB_CDEFu64.to_le_bytes());
+}
+
+/// No call runs with a setting that it doesn't take.
+#[test]
+fn settings_are_taken() {
+    for case in with_settings() {
+        assert!(catch_unwind(|| case.run()).is_err(), "{case:?}");
+    }
 }
 
 /// What crate `cases` must print is what is written here.

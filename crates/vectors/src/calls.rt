@@ -1,6 +1,7 @@
 // One case of the corpus: a read, a write or an application.
 use crate::input;
 use crate::input::Lengths;
+use crate::input::Settings;
 use crate::output;
 use answer::Answer;
 
@@ -43,23 +44,22 @@ pub fn run() -> bool {
     if !input::bytes(&mut code) {
         return false;
     }
-    let class = input::u32le();
-    let base = input::u64le();
+    let settings = input::case_settings();
     let mut space = [0u8; BYTES];
     let n = input::capped(input::u32le(), BYTES);
     let table: &mut [u8] = &mut space[..n];
     input::bytes(table);
     let lengths = input::column_lengths();
     match code[0] {
-        RELR_READ | APR1_READ | APA1_READ | RELLEB_READ => read(code[0], class, table, lengths),
-        RELR_APPLY => apply(class, base, table),
-        _ => write(code[0], class, lengths),
+        RELR_READ | APR1_READ | APA1_READ | RELLEB_READ => read(code[0], settings, table, lengths),
+        RELR_APPLY => apply(settings, table),
+        _ => write(code[0], settings, lengths),
     }
     true
 }
 
 // A kind that lacks a column has one of no entries.
-fn read(code: u8, class: u32, table: &[u8], lengths: Lengths) {
+fn read(code: u8, settings: Settings, table: &[u8], lengths: Lengths) {
     let mut offset_space = [FILL64; OFFSETS];
     let mut type_space = [FILL32; ENTRIES];
     let mut symbol_space = [FILL32; ENTRIES];
@@ -74,10 +74,10 @@ fn read(code: u8, class: u32, table: &[u8], lengths: Lengths) {
     let addends: &mut [i64] = &mut addend_space[..n_addends];
     input::u32le();
     let a = match code {
-        RELR_READ => relr::read(class, table, offsets),
+        RELR_READ => relr::read(settings.class, table, offsets),
         APR1_READ => apr1::read(table, offsets),
         APA1_READ => apa1::read(table, offsets, addends),
-        _ => relleb::read(class, table, offsets, types, symbols, addends),
+        _ => relleb::read(settings.class, table, offsets, types, symbols, addends),
     };
     let h = output::column64(output::EMPTY, offsets);
     let h = output::column32(h, types);
@@ -85,7 +85,7 @@ fn read(code: u8, class: u32, table: &[u8], lengths: Lengths) {
     output::line(a, output::signed_column(h, addends));
 }
 
-fn write(code: u8, class: u32, lengths: Lengths) {
+fn write(code: u8, settings: Settings, lengths: Lengths) {
     let mut offset_list = [0u64; OFFSETS];
     let mut type_list = [0u32; ENTRIES];
     let mut symbol_list = [0u32; ENTRIES];
@@ -106,19 +106,19 @@ fn write(code: u8, class: u32, lengths: Lengths) {
     let m = input::capped(input::u32le(), BYTES);
     let table: &mut [u8] = &mut space[..m];
     let a = match code {
-        RELR_WRITE => relr::write(class, offsets, table),
+        RELR_WRITE => relr::write(settings.class, offsets, table),
         APR1_WRITE => apr1::write(offsets, table),
         APA1_WRITE => apa1::write(offsets, addends, table),
-        _ => relleb::write(class, offsets, types, symbols, addends, table),
+        _ => relleb::write(settings.class, offsets, types, symbols, addends, table),
     };
     output::line(a, output::bytes(output::EMPTY, table));
 }
 
-fn apply(class: u32, base: u64, table: &[u8]) {
+fn apply(settings: Settings, table: &[u8]) {
     let mut space = [0u8; BYTES];
     let m = input::capped(input::u32le(), BYTES);
     let image: &mut [u8] = &mut space[..m];
     input::bytes(image);
-    let a = relr::apply(class, table, base, image);
+    let a = relr::apply(settings.class, table, settings.base, image);
     output::line(a, output::bytes(output::EMPTY, image));
 }

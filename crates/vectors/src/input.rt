@@ -2,6 +2,15 @@
 ghost use Prim.Native.Nat.{_≤_, _<_};
 use libc::STDIN_FILENO;
 
+// What a case sets; `reference/FORMAT.md` has the values. What its call does not take is 0.
+pub struct Settings {
+    pub class: u32,
+    pub order: u8,
+    pub strict: u8,
+    pub base: u64,
+    pub start: u64,
+}
+
 // How many entries each column of a case has.
 pub struct Lengths {
     pub offsets: u32,
@@ -13,6 +22,12 @@ pub struct Lengths {
 // Fills a slice, and tells whether the input had a byte for it.
 pub fn bytes(s: &mut [u8]) -> bool {
     io::read_full(STDIN_FILENO, s) > 0
+}
+
+fn byte() -> u8 {
+    let mut b = [0u8; 1];
+    bytes(&mut b);
+    b[0]
 }
 
 fn widen(b: u8) -> u32
@@ -31,6 +46,21 @@ pub fn u64le() -> u64 {
     let low = u32le() as u64;
     let high = u32le() as u64;
     low + high * 4294967296
+}
+
+pub fn case_settings() -> Settings {
+    let class = u32le();
+    let order = byte();
+    let strict = byte();
+    let base = u64le();
+    let start = u64le();
+    Settings {
+        class: class,
+        order: order,
+        strict: strict,
+        base: base,
+        start: start,
+    }
 }
 
 pub fn column_lengths() -> Lengths {

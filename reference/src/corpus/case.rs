@@ -23,7 +23,13 @@ pub const FILL: u8 = 0xA5;
 pub struct Case {
     pub call: u8,
     pub class: u32,
+    /// The words of tables and image are big-endian.
+    pub big: bool,
+    /// Padded numbers are refused.
+    pub strict: bool,
     pub base: u64,
+    /// The address of the image's first byte.
+    pub start: u64,
     pub input: Vec<u8>,
     pub offsets: Vec<u64>,
     pub types: Vec<u32>,
@@ -37,7 +43,10 @@ impl Case {
         Case {
             call,
             class,
+            big: false,
+            strict: false,
             base: 0,
+            start: 0,
             input: Vec::new(),
             offsets: Vec::new(),
             types: Vec::new(),
@@ -107,7 +116,13 @@ impl Case {
     /// Panics on a setting that the call doesn't take, so that no test believes
     /// it was tried.
     pub fn check_settings(&self) {
-        let set = [(Setting::Class, self.class != 0), (Setting::Base, self.base != 0)];
+        let set = [
+            (Setting::Class, self.class != 0),
+            (Setting::Order, self.big),
+            (Setting::Strict, self.strict),
+            (Setting::Base, self.base != 0),
+            (Setting::Start, self.start != 0),
+        ];
         for (setting, set) in set {
             assert!(!set || self.call().takes(setting), "{} has no {setting:?}", self.call().name);
         }
@@ -170,7 +185,9 @@ impl Case {
         let long = self.is_long();
         out.push(if long { LONG | self.call } else { self.call });
         out.extend(self.class.to_le_bytes());
+        out.extend([self.big as u8, self.strict as u8]);
         out.extend(self.base.to_le_bytes());
+        out.extend(self.start.to_le_bytes());
         put_u32(self.input.len(), out);
         put_given(&self.input, long, out);
         put_u32(self.offsets.len(), out);
@@ -238,6 +255,13 @@ impl From<'_> {
         self.take(N).try_into().unwrap()
     }
 
+    /// A byte that is 0 or 1.
+    fn flag(&mut self) -> bool {
+        let [byte] = self.array();
+        assert!(byte < 2, "{byte} is neither 0 nor 1");
+        byte == 1
+    }
+
     fn u32(&mut self) -> u32 {
         u32::from_le_bytes(self.array())
     }
@@ -254,12 +278,13 @@ impl From<'_> {
         let code = self.array::<1>()[0];
         let (call, long) = (code & !LONG, code & LONG != 0);
         let class = self.u32();
-        let base = self.u64();
+        let (big, strict) = (self.flag(), self.flag());
+        let (base, start) = (self.u64(), self.u64());
         let length = self.size();
         let input = if long { vec![0; length] } else { self.take(length).to_vec() };
         let rooms = [self.size(), self.size(), self.size(), self.size()];
-        let mut case = Case::read(call, class, &input, rooms);
-        case.base = base;
+        let read = Case::read(call, class, &input, rooms);
+        let mut case = Case { big, strict, base, start, ..read };
         if case.is_write() && long {
             case.offsets.fill(0);
             case.types.fill(0);

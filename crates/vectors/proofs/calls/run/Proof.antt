@@ -9,9 +9,9 @@ use Rattle.vectors.proofs.calls.read.Reads as read-reads
 use Rattle.vectors.proofs.calls.write.Reads as write-reads
 use Rattle.vectors.proofs.input.bytes.Reads as bytes-reads
 use Rattle.vectors.proofs.input.capped.Reads as capped-reads
+use Rattle.vectors.proofs.input.case_settings.Reads as case-settings-reads
 use Rattle.vectors.proofs.input.column_lengths.Reads as column-lengths-reads
 use Rattle.vectors.proofs.input.u32le.Reads as u32le-reads
-use Rattle.vectors.proofs.input.u64le.Reads as u64le-reads
 
 slice-aggregate-bytes : tie.Need-slice-aggregate-bytes
 slice-aggregate-bytes c = search needs
@@ -22,14 +22,11 @@ bytes-requires c κs = search needs
 returns : tie.Need-returns
 returns c = search needs
 
+case-settings-requires : tie.Need-case-settings-requires
+case-settings-requires c κs = search needs
+
 u32le-requires : tie.Need-u32le-requires
 u32le-requires c κs = search needs
-
-u64le-requires : tie.Need-u64le-requires
-u64le-requires c κs = search needs
-
-u32le-requires-2 : tie.Need-u32le-requires-2
-u32le-requires-2 c κs = search needs
 
 capped-requires : tie.Need-capped-requires
 capped-requires c κs = search needs
@@ -80,9 +77,8 @@ run-spec =
     slice-aggregate-bytes
     bytes-requires
     returns
+    case-settings-requires
     u32le-requires
-    u64le-requires
-    u32le-requires-2
     capped-requires
     array-borrow-prefix-space
     slice-aggregate-table
