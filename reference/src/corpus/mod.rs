@@ -1,5 +1,8 @@
 //! The corpus: calls with the answers expected of them.
 
+pub mod build;
+mod build_lists;
+mod build_tables;
 pub mod calls;
 pub mod case;
 pub mod generate;
