@@ -1,12 +1,21 @@
 //! Cases from random numbers: the reference's builders with all their edges,
-//! any class, and columns of unequal lengths.
+//! any class, columns of unequal lengths, and the library's own tables.
 
+use crate::damage::{DAMAGES, Damage, whole};
 use reference::corpus::build::Build;
 use reference::corpus::calls::{CALLS, Setting};
 use reference::corpus::case::Case;
 use reference::corpus::rng::Rng;
 
-pub fn case(rng: &mut Rng) -> Case {
+/// A case, and the damage if its table is a damaged one of the library.
+pub struct Made {
+    pub case: Case,
+    pub damage: Option<Damage>,
+}
+
+/// One in four of the reads and applies has a damaged table of the library, one
+/// in eight a whole one.
+pub fn case(rng: &mut Rng) -> Made {
     let call = rng.index(CALLS.len()) as u8;
     let class = rng.pick(&[4, 8]);
     let size = 1 + match rng.below(40) {
@@ -14,14 +23,22 @@ pub fn case(rng: &mut Rng) -> Case {
         1..=4 => rng.index(50),
         _ => rng.index(10),
     };
-    let mut case = Build { rng, edges: true }.case(call, class, size);
+    let share = rng.below(8);
+    let damage = (share < 2).then(|| rng.pick(&DAMAGES).0);
+    let mut build = Build { rng, edges: true };
+    if share < 3
+        && let Some(case) = whole(&mut build, call, class, size, damage)
+    {
+        return Made { case, damage };
+    }
+    let mut case = build.case(call, class, size);
     if case.call().takes(Setting::Class) && rng.once_in(30) {
         case.class = if rng.once_in(2) { rng.below(17) as u32 } else { rng.draw() as u32 };
     }
     if rng.once_in(16) {
         uneven(rng, &mut case);
     }
-    case
+    Made { case, damage: None }
 }
 
 /// Makes a column that the call has longer or shorter.

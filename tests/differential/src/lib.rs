@@ -1,5 +1,6 @@
 //! One case run by the reference and by the library, for comparing.
 
+pub mod damage;
 pub mod generate;
 
 use reference::corpus::calls::{

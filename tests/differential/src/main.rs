@@ -1,8 +1,12 @@
 //! Compares every call of the library with the reference on random cases for a
 //! bounded time: `differential [--seconds N] [--seed S]`. The cases follow from
-//! the seed, which is printed first.
+//! the seed, which is printed first. At its end it prints how many ended in each
+//! number, how many had a damaged table of the library's writers, and how many
+//! there were.
 
-use differential::{by_library, by_reference, generate};
+use differential::damage::DAMAGES;
+use differential::generate::{self, Made};
+use differential::{by_library, by_reference};
 use reference::corpus::calls::{CALLS, NUMBERS};
 use reference::corpus::rng::Rng;
 use std::process::ExitCode;
@@ -17,9 +21,10 @@ fn main() -> ExitCode {
     let end = Instant::now() + Duration::from_secs(seconds);
     let mut rng = Rng::new(seed);
     let mut seen = vec![[0u64; NUMBERS]; CALLS.len()];
+    let mut damaged = [0u64; DAMAGES.len()];
     let mut cases = 0u64;
     while Instant::now() < end {
-        let case = generate::case(&mut rng);
+        let Made { case, damage } = generate::case(&mut rng);
         let (want, got) = (by_reference(&case), by_library(&case));
         if want != got {
             println!("difference in case {cases}, {}: {case:02x?}", case.call().name);
@@ -31,8 +36,20 @@ fn main() -> ExitCode {
         }
         let number = want.result.err().map_or(0, |refusal| refusal.number);
         seen[case.call as usize][number as usize] += 1;
+        if let Some(damage) = damage {
+            damaged[damage as usize] += 1;
+        }
         cases += 1;
     }
+    print_seen(&seen);
+    let damaged = DAMAGES.iter().zip(damaged).map(|((_, name), count)| format!("{name} {count}"));
+    println!("writers' tables damaged: {}", damaged.collect::<Vec<_>>().join(", "));
+    println!("{cases} cases, no difference");
+    ExitCode::SUCCESS
+}
+
+/// How many cases of each call ended in each number.
+fn print_seen(seen: &[[u64; NUMBERS]]) {
     for (call, row) in CALLS.iter().zip(seen) {
         print!("{}:", call.name);
         for (number, count) in row.iter().enumerate().filter(|(_, count)| **count > 0) {
@@ -40,8 +57,6 @@ fn main() -> ExitCode {
         }
         println!();
     }
-    println!("{cases} cases, no difference");
-    ExitCode::SUCCESS
 }
 
 /// Seconds and seed: 20 and the time, where not given.

@@ -1,0 +1,83 @@
+//! The library's own tables, damaged once.
+
+use differential::by_reference;
+use differential::damage::{DAMAGES, Damage};
+use differential::generate::{self, Made};
+use reference::corpus::calls::{APA1_READ, APR1_READ, RELLEB_READ, RELR_APPLY, RELR_READ};
+use reference::corpus::rng::Rng;
+use std::collections::HashSet;
+
+/// The calls that take tables, with their classes.
+const READERS: [(u8, u32); 8] = [
+    (RELR_READ, 4),
+    (RELR_READ, 8),
+    (RELR_APPLY, 4),
+    (RELR_APPLY, 8),
+    (APR1_READ, 0),
+    (APA1_READ, 0),
+    (RELLEB_READ, 4),
+    (RELLEB_READ, 8),
+];
+
+fn without(bytes: &[u8], at: usize) -> Vec<u8> {
+    [&bytes[..at], &bytes[at + 1..]].concat()
+}
+
+/// The places where a table differs from the whole one, if it is damaged so and
+/// not otherwise.
+fn places(damage: Damage, whole: &[u8], table: &[u8]) -> Vec<usize> {
+    let changed = |at: &usize| whole[*at] != table[*at];
+    match damage {
+        Damage::Bit | Damage::Byte => {
+            assert_eq!(whole.len(), table.len());
+            let places: Vec<usize> = (0..whole.len()).filter(changed).collect();
+            let bits = (whole[places[0]] ^ table[places[0]]).count_ones();
+            assert!(places.len() == 1 && (bits == 1 || damage == Damage::Byte));
+            places
+        }
+        Damage::Less => (0..whole.len()).filter(|at| without(whole, *at) == table).collect(),
+        Damage::More => (0..table.len()).filter(|at| without(table, *at) == whole).collect(),
+    }
+}
+
+/// A damage is exactly what its name says, and meets every place.
+#[test]
+fn one_damage() {
+    let mut rng = Rng::new(1);
+    let whole = [0x00, 0x11, 0x22, 0x33];
+    for (index, (damage, name)) in DAMAGES.into_iter().enumerate() {
+        assert_eq!(damage as usize, index);
+        let mut met = HashSet::new();
+        for _ in 0..200 {
+            let mut table = whole.to_vec();
+            damage.strike(&mut rng, &mut table);
+            let places = places(damage, &whole, &table);
+            assert!(!places.is_empty(), "{name}: {table:02x?}");
+            met.extend(places);
+        }
+        assert_eq!(met.len(), whole.len() + (damage == Damage::More) as usize, "{name}");
+    }
+}
+
+/// Every call that takes tables meets each damage in each class, and each
+/// damage leaves some tables accepted and some refused.
+#[test]
+fn every_damage_is_met() {
+    let mut rng = Rng::new(1);
+    let (mut met, mut kept, mut refused) = (HashSet::new(), HashSet::new(), HashSet::new());
+    for _ in 0..20_000 {
+        let Made { case, damage: Some(damage) } = generate::case(&mut rng) else {
+            continue;
+        };
+        met.insert((damage as usize, case.call, case.class));
+        // 9, 12 and 15 do not refuse the table.
+        match by_reference(&case).result.map_err(|refusal| refusal.number) {
+            Ok(_) | Err(9 | 12) => kept.insert(damage as usize),
+            Err(15) => false,
+            Err(_) => refused.insert(damage as usize),
+        };
+    }
+    let readers = |damage| READERS.map(|(call, class)| (damage, call, class));
+    assert_eq!(met, (0..DAMAGES.len()).flat_map(readers).collect());
+    assert_eq!((kept.len(), refused.len()), (DAMAGES.len(), DAMAGES.len()));
+}
