@@ -14,7 +14,8 @@ use crate::leb::Kind::{self, Signed, Unsigned};
 const SEED: u64 = 0x5245_4C52_2D32_3031;
 const ROUNDS: usize = 330;
 
-/// The calls in the order of a round.
+/// The calls in the order of a round. A further call is drawn behind the rounds:
+/// among them it would change every case that follows.
 const ORDER: &[u8] = &[
     RELR_READ,
     RELR_APPLY,

@@ -6,12 +6,21 @@ use reference::corpus::calls::{APR1_READ, CALLS, NUMBERS, RELR_APPLY, RELR_READ}
 use reference::corpus::case::Case;
 use reference::corpus::rng::Rng;
 use reference::corpus::{all, long};
+use reloc::{Kind, Refusal};
 use std::collections::HashSet;
 
 #[test]
 fn corpus() {
     for named in all().iter().chain(&long::cases()) {
         assert!(by_library(&named.case) == by_reference(&named.case), "{}", named.name);
+    }
+}
+
+#[test]
+fn every_refusal_has_a_name() {
+    for number in CALLS.iter().flat_map(|call| call.refusals) {
+        let refusal = Refusal { number: *number, place: 0, need: 0 };
+        assert!(refusal.kind() != Kind::Unknown, "{number} has no name in the wrapper");
     }
 }
 
