@@ -7,18 +7,14 @@ ghost use Rattle.apa1_table.specs.Contract.{Reads as Apa1Reads, Writes as Apa1W
 ghost use Rattle.relleb_table.specs.Contract.{Reads as RellebReads, Writes as RellebWrites};
 use answer::Answer;
 
-// The version: major, minor and patch.
-const MAJOR: u32 = 0;
-
-const MINOR: u32 = 2;
-
-const PATCH: u32 = 0;
+// The version as one number: 0.2.0.
+const VERSION: u32 = 2000;
 
 #[no_mangle]
 pub extern "C" fn reloc_version() -> u32
     ensures { λ r. ⌜ r ≡ version ⌝ }
 {
-    MAJOR * 1000000 + MINOR * 1000 + PATCH
+    VERSION
 }
 
 #[no_mangle]
