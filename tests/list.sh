@@ -72,11 +72,12 @@ PATH=$out/bin:$PATH ends 2 apa1 "$out/nothing"
 PATH=$out/bin:$PATH ends 2 apa1
 [ ! -e "$out/called" ] || fail "proved before the arguments were looked at"
 
-# A copy in which the program has changed: it is proved again, and that is told, a line a crate.
-mkdir "$out/copy"
-cp -a "$root/list-table" "$root/crates.txt" "$root/crates" "$root/samples" "$root/target" "$out/copy"
+# A copy in which the program has changed: it is proved again, over the libraries that are proved here, and that is told, a line a crate.
+mkdir -p "$out/copy/target"
+cp -a "$root/list-table" "$root/crates.txt" "$root/crates" "$out/copy"
+cp -a "$root/target/stamp" "$out/copy/target"
+ln -s "$root/target/rlib" "$out/copy/target/rlib"
 echo '// changed' >>"$out/copy/crates/list/src/main.rt"
-rm "$out/copy/target/bin/list"
 command=$out/copy/list-table
 ends 0 apa1 "$root/samples/pairs.apa1"
 sed 's/([0-9]* s)/(N s)/' "$out/told" | diff - <(
