@@ -17,6 +17,7 @@ use Rattle.leb128.specs.Number.{raw, readUnsigned, signed, readSigned, short, s
 use Rattle.leb128.specs.declared.Unsigned.the-variants.{Value as UValue}
 use Rattle.leb128.specs.declared.Signed.the-variants.{Value as SValue}
 use Rattle.answer.specs.Outcome.{accepted, before, after}
+use Rattle.records.specs.Columns.{Each}
 use Rattle.records.specs.Identifier.{startsWith}
 use Rattle.records.specs.Reading.{stepThen, records, counted}
 use Rattle.records.specs.Writing.{putThen, puts}
@@ -46,13 +47,9 @@ Holds (apr1Table bytes l) = (apr1.decode bytes ≡ accepted l) × (apr1.encode l
 Holds (apa1Table bytes l) = (apa1.decode bytes ≡ accepted l) × (apa1.encode l ≡ accepted bytes)
 Holds (rellebTable width bytes l) = (relleb.decode width bytes ≡ accepted l) × (relleb.encode width l ≡ accepted bytes)
 
--- every row of a table
-pub Each : List Case → Type 0
-Each [] = Unit {0}
-Each (k ∷ ks) = Holds k × Each ks
-
-pub table : List Case
-table =
+-- the starred cases
+pub worked : List Case
+worked =
     -- A
     unsignedNumber 32 (0xE5 ∷ 0x8E ∷ 0x26 ∷ []) 624485
     -- B: negsuc n is - (n + 1)
@@ -78,8 +75,9 @@ table =
     ∷ rellebTable 64 (0x02 ∷ 0x10 ∷ 0x81 ∷ 0x02 ∷ 0x7C ∷ 0x7C ∷ 0x08 ∷ 0x00 ∷ 0x03 ∷ []) (relleb.row 16 257 3 (negsuc 3) ∷ relleb.row 24 257 3 (negsuc 3) ∷ [])
     ∷ []
 
-pub claim : Each table
-unfolding Each Holds table readUnsigned readSigned raw signed short shortBy before after
+-- each of them holds
+pub claim : Each Holds worked
+unfolding Holds worked readUnsigned readSigned raw signed short shortBy before after
     valueOf bytesIn wordAt withWord firstWords wordsOf bytesOfWords
     relr.marked relr.fit relr.anchored relr.read relr.falls relr.bit relr.word relr.first relr.write relr.table
     parse decode checked build encode leading contained targets added patched changed imageAfter
