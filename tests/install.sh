@@ -18,7 +18,7 @@ if command -v pkg-config >/dev/null; then
     flags=$(ask --cflags --libs)
     version=$(ask --modversion)
 else
-    flags=$(sed -n "s|^\(Cflags\|Libs\): ||p" "$place/lib/pkgconfig/reloc.pc" | sed "s|\${prefix}|$place|g" | tr '\n' ' ')
+    flags=$(sed -En 's/^(Cflags|Libs): //p' "$place/lib/pkgconfig/reloc.pc" | sed "s|\${prefix}|$place|g" | tr '\n' ' ')
     version=$(sed -n 's/^Version: //p' "$place/lib/pkgconfig/reloc.pc")
 fi
 cp "$root"/examples/*.c "$out"
