@@ -88,8 +88,9 @@ extern "C" {
 
 /*
  * The version of this header: major * 1000000 + minor * 1000 + patch, and as text.
- * Minor is raised when a call's arguments or answers change; CHANGELOG.md tells
- * how. A program built with another header than the library's sees it:
+ * Minor is raised when a call's arguments or answers or a name here change, as
+ * CHANGELOG.md tells. A program built with another header than the library's sees
+ * it:
  *
  *     if (reloc_version() != RELOC_VERSION) the header is not the library's
  */

@@ -1,7 +1,7 @@
 #!/usr/bin/env python3
 """Holds libreloc.a to what include/reloc.h says of it: an x86-64 ELF archive that is code alone, without an undefined symbol, and
 whose calls take at most RELOC_STACK_LIMIT bytes of stack. The stack is bounded from the object code: of each function the pushes, the
-frame, the red zone and its deepest callee; a call through a pointer, a recursion or a frame of unknown size is a failure.
+frame, the red zone and its deepest callee; a recursion, a call that cannot be followed or a frame of unknown size is a failure.
 
 usage: tests/archive.py LIBRARY"""
 
@@ -29,24 +29,32 @@ def sections(library):
     return [(row[1], row[3]) for row in rows if row and int(row[2], 16) and "ALLOC" in row[3]]
 
 
+def taken(line):
+    """The bytes of stack that an instruction takes. A large number added is a small one subtracted, and the other way round."""
+    if re.search(r"\bpush\w*\s", line):
+        return WORD
+    if found := re.search(r"\b(sub|add)\s+\$0x([0-9a-f]+),%rsp$", line):
+        number = int(found[2], 16)
+        number -= 1 << 64 if number >> 63 else 0
+        return max(0, number if found[1] == "sub" else -number)
+    if re.search(r",%[er]?sp$|\bmov\w*\s+%rsp,", line) and not re.search(r"\bcmp|\btest", line):
+        fail(f"not a frame that can be bounded: {line.strip()}")
+    return 0
+
+
 def frame(lines):
-    """The bytes that a function's own instructions take below its return address."""
-    taken, red = 0, 0
-    for line in lines:
-        if re.search(r"\bpush\b", line):
-            taken += WORD
-        elif found := re.search(r"\bsub\s+\$0x([0-9a-f]+),%rsp", line):
-            taken += int(found[1], 16)
-        elif re.search(r"\b(sub|and|lea|mov)\b.*,%rsp$", line) or re.search(r"\b(call|jmp)\s+\*", line):
-            fail(f"not a frame that can be bounded: {line.strip()}")
-        for below in re.findall(r"-0x([0-9a-f]+)\(%rsp", line):
-            red = max(red, int(below, 16))
-    return taken + red
+    """The bytes that a function's own instructions take below its return address, each once, and the red zone."""
+    red = max((int(below, 16) for line in lines for below in re.findall(r"-0x([0-9a-f]+)\(%rsp", line)), default=0)
+    return sum(map(taken, lines)) + red
 
 
 def callees(lines):
-    """The functions that a function's instructions refer to."""
-    return {found[1] for line in lines if (found := re.search(r"R_X86_64_\w+\s+(?:\.text\.)?(.+?)[-+]0x", line))}
+    """The functions that a function's instructions refer to; each call names one in the relocation behind it."""
+    named = [re.search(r"R_X86_64_\w+\s+(?:\.text\.)?(.+?)[-+]0x", line) for line in [*lines, ""]]
+    for line, behind in zip(lines, named[1:]):
+        if re.search(r"\b(call|jmp)\s+\*", line) or (re.search(r"\bcall\b", line) and not behind):
+            fail(f"not a call that can be followed: {line.strip()}")
+    return {found[1] for found in named if found}
 
 
 def functions(library):
@@ -69,6 +77,8 @@ def depth(name, found, above=()):
 
 
 def main():
+    if len(sys.argv) != 2:
+        sys.exit(__doc__)
     library = sys.argv[1]
     if "file format elf64-x86-64" not in printed("objdump", "-f", library):
         fail("not elf64-x86-64")

@@ -10,8 +10,9 @@ root=$(cd "$(dirname "$0")/.." && pwd)
 for crate in "$@"; do
     cd "$root/$crate"
     built=$(cargo test --offline --no-run 2>&1) || { echo "$built"; exit 1; }
+    mapfile -t programs < <(sed -n 's/^ *Executable .* (\(.*\))$/\1/p' <<<"$built")
     passed=0
-    for program in $(sed -n 's/^ *Executable .* (\(.*\))$/\1/p' <<<"$built"); do
+    for program in "${programs[@]}"; do
         said=$(valgrind --error-exitcode=9 -q "$program" --test-threads=1 2>&1) || { echo "$said"; exit 1; }
         passed=$((passed + $(sed -n 's/^test result: ok\. \([0-9]*\) passed.*/\1/p' <<<"$said")))
     done
