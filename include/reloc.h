@@ -94,8 +94,8 @@ extern "C" {
  *
  *     if (reloc_version() != RELOC_VERSION) the header is not the library's
  */
-#define RELOC_VERSION 2000u
-#define RELOC_VERSION_TEXT "0.2.0"
+#define RELOC_VERSION 3000u
+#define RELOC_VERSION_TEXT "0.3.0"
 
 /* The version of the library, as RELOC_VERSION. */
 RELOC_NODISCARD
@@ -137,8 +137,10 @@ enum reloc_number {
                                      place 0 */
     RELOC_REFUSED_MISSING = 4,    /* the table ends early, or a RELR table is not
                                      whole words; place is the table's length */
-    RELOC_REFUSED_WIDTH = 5,      /* a number outside its width, or a negative
-                                     count; place is the number's first byte */
+    RELOC_REFUSED_WIDTH = 5,      /* a number outside its width; place is its last
+                                     allowed byte, the first byte plus 4 at the
+                                     widths 32 and 33, plus 9 at 64. Or a negative
+                                     count; place is its first byte */
     RELOC_REFUSED_ORDER = 6,      /* read, apply: a RELR bitmap before any address;
                                      place is the word's first byte. Write: an
                                      offset equal to or below the one before; place

@@ -28,7 +28,8 @@ fn parsed(table: &[u8]) -> Result<Vec<(u64, i64)>, Answer> {
     // "The identifier, then a count and that many pairs (offset difference,
     // addend difference), all signed width 64."
     let (count, mut next) = leb::read(table, 4, Signed(64))?;
-    // "A negative count is refusal 5", at "its first byte"
+    // "A negative count is refusal 5", and, by document 02, "a negative count
+    // stays at the number's first byte".
     if count < 0 {
         return Err(Answer::refused(5, 4));
     }

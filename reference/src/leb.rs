@@ -53,10 +53,10 @@ pub fn read(table: &[u8], start: usize, kind: Kind) -> Result<(i128, usize), Ans
         let Some(&byte) = table.get(start + k) else {
             return Err(Answer::refused(4, table.len()));
         };
-        // "a bad last allowed byte is 5"; the place of 5 is the number's
-        // first byte.
+        // "a bad last allowed byte is 5", and, by document 02, "Refusal 5 now
+        // places a number outside its width at its last allowed byte".
         if k + 1 == kind.most_bytes() && !last_byte_allowed(kind, byte) {
-            return Err(Answer::refused(5, start));
+            return Err(Answer::refused(5, start + k));
         }
         // "low seven bits first"
         value += ((byte & 0x7F) as i128) << (7 * k);

@@ -6,6 +6,7 @@ use reference::corpus::calls::{
 };
 use reference::corpus::case::{Case, decode, fnv1a};
 use reference::corpus::{Named, all, hand, long, pairs};
+use reference::leb::Kind::{self, Signed, Unsigned};
 use reference::published;
 use std::panic::catch_unwind;
 
@@ -49,6 +50,62 @@ fn every_allowed_pair_is_there() {
             let allowed = call.refusals.contains(&(number as u32)) && number != 2;
             assert_eq!(by_hand[code][number] > 0, allowed, "{} {number}", call.name);
             assert_eq!(counts[code][number] > 0, allowed, "{} {number}", call.name);
+        }
+    }
+}
+
+/// The bytes before a number of a table, and the number's kind.
+type Field = (Vec<u8>, Kind);
+
+/// The numbers of the tables that a call reads, each with the class.
+fn fields() -> Vec<(u8, u32, Field)> {
+    let apr1 = [&b"APR1"[..], b"APR1\x00", b"APR1\x01\x00", b"APR1\x01\x00\x01"];
+    let apa1 = [&b"APA1"[..], b"APA1\x01", b"APA1\x01\x00"];
+    let mut fields = Vec::new();
+    fields.extend(apr1.map(|before| (APR1_READ, 0, (before.to_vec(), Unsigned(32)))));
+    fields.extend(apa1.map(|before| (APA1_READ, 0, (before.to_vec(), Signed(64)))));
+    for class in [4, 8] {
+        let kinds =
+            [Unsigned(64), Unsigned(8 * class), Signed(32), Signed(33), Signed(8 * class)];
+        // -1 in the symbol's place lets an addend follow
+        let record = [1, 0, 0, 0x7F];
+        for (length, kind) in kinds.into_iter().enumerate() {
+            fields.push((RELLEB_READ, class, (record[..length].to_vec(), kind)));
+        }
+    }
+    fields
+}
+
+/// A number in all its allowed bytes, outside its width: the last has its top
+/// bit set; the value is too large; a signed one is too small.
+fn outside(kind: Kind) -> Vec<Vec<u8>> {
+    let form = |fill: u8, last: u8| [vec![fill; kind.most_bytes() - 1], vec![last]].concat();
+    let left = kind.width() - 7 * (kind.most_bytes() as u32 - 1);
+    let mut ways = vec![form(0x80, 0x80)];
+    if kind.signed() {
+        ways.push(form(0x80, 1 << (left - 1)));
+        ways.push(form(0xFF, 0x7F - (1 << (left - 1))));
+    } else {
+        ways.push(form(0x80, 1 << left));
+    }
+    ways
+}
+
+/// Each number of each table, outside its width in each way that there is, has
+/// a hand-made case, which refuses it at its last allowed byte.
+#[test]
+fn every_way_outside_a_width() {
+    let hands = hand::all();
+    for (call, class, (before, kind)) in fields() {
+        let last = before.len() + kind.most_bytes() - 1;
+        for number in outside(kind) {
+            let table = [&before[..], &number].concat();
+            let same = |case: &Case| {
+                case.call == call && case.class == class && case.input.starts_with(&table)
+            };
+            let wants: Vec<_> = hands.iter().filter(|h| same(&h.case)).map(|h| h.want).collect();
+            let refused = wants.contains(&(5, last as u64, 0));
+            assert!(refused, "{} class {class} {table:02X?}", Call::of(call).name);
         }
     }
 }

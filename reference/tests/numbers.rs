@@ -54,7 +54,8 @@ fn last_byte_at_every_value() {
                 let value = value_of(kind, &bytes);
                 let good = byte < 128 && within(kind, value);
                 assert_eq!(leb::last_byte_allowed(kind, byte), good);
-                let want = if good { Ok((value, bytes.len())) } else { refused(5, 0) };
+                let last = bytes.len() as u64 - 1;
+                let want = if good { Ok((value, bytes.len())) } else { refused(5, last) };
                 assert_eq!(leb::read(&bytes, 0, kind), want);
             }
         }
@@ -82,7 +83,7 @@ fn missing_bytes() {
 #[test]
 fn place_and_next_place() {
     let bytes = [9, 9, 0x80, 0x80, 0x80, 0x80, 0x10, 9];
-    assert_eq!(leb::read(&bytes, 2, Unsigned(32)), refused(5, 2));
+    assert_eq!(leb::read(&bytes, 2, Unsigned(32)), refused(5, 6));
     assert_eq!(leb::read(&bytes, 1, Unsigned(32)), Ok((9, 2)));
     assert_eq!(leb::read(&bytes, 2, Unsigned(64)), Ok((1 << 32, 7)));
 }

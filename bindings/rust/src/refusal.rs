@@ -25,7 +25,9 @@ pub enum Kind {
     /// 4: the table ends early, or a RELR table is not whole words. Place: the
     /// table's length.
     Missing,
-    /// 5: a number outside its width, or a negative count. Place: its first byte.
+    /// 5: a number outside its width (place: its last allowed byte, the first byte
+    /// plus 4 at the widths 32 and 33, plus 9 at 64), or a negative count (place:
+    /// its first byte).
     Width,
     /// 6: a RELR bitmap before any address (place: its first byte), or in a RELR
     /// or APR1 write an offset equal to or below the one before (place: its index).

@@ -1,5 +1,5 @@
 //! Hand-made cases. Each carries the number, place and count that follow from
-//! document 01 by hand; the generator stops when an answer differs.
+//! documents 01 and 02 by hand; the generator stops when an answer differs.
 
 use super::Named;
 use super::case::Case;

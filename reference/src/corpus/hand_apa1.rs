@@ -92,9 +92,9 @@ fn read_counts() -> Vec<Hand> {
         hand("apa1_read count -1", read(&[&[0x7F]], 4), (5, 4, 0)),
         hand("apa1_read count -1 padded", read(&[&MINUS], 4), (5, 4, 0)),
         hand("apa1_read count least", read(&[&LEAST], 4), (5, 4, 0)),
-        hand("apa1_read count over", read(&[&OVER], 4), (5, 4, 0)),
-        hand("apa1_read count under", read(&[&UNDER], 4), (5, 4, 0)),
-        hand("apa1_read count long", read(&[&LONG], 4), (5, 4, 0)),
+        hand("apa1_read count over", read(&[&OVER], 4), (5, 13, 0)),
+        hand("apa1_read count under", read(&[&UNDER], 4), (5, 13, 0)),
+        hand("apa1_read count long", read(&[&LONG], 4), (5, 13, 0)),
         hand("apa1_read count missing", read(&[], 4), (4, 4, 0)),
         hand("apa1_read count cut", read(&[&[0xC0]], 4), (4, 5, 0)),
         hand("apa1_read count cut at nine", read(&[&LONG[..9]], 4), (4, 13, 0)),
@@ -116,11 +116,11 @@ fn read_numbers() -> Vec<Hand> {
     for (name, bad) in [("over", OVER), ("under", UNDER), ("long", LONG)] {
         let named = |field: &str| format!("apa1_read {field} {name}");
         hands.extend([
-            hand(&named("offset"), read(&[&[1], &bad, &[0]], 4), (5, 5, 0)),
-            hand(&named("addend"), read(&[&[1, 0], &bad], 4), (5, 6, 0)),
-            hand(&named("second offset"), read(&[&[2, 0, 0], &bad], 4), (5, 7, 0)),
-            hand(&named("second addend"), read(&[&[2, 0, 0, 0], &bad], 4), (5, 8, 0)),
-            hand(&named("addend behind padding"), read(&[&[1], &ZERO, &bad], 4), (5, 15, 0)),
+            hand(&named("offset"), read(&[&[1], &bad, &[0]], 4), (5, 14, 0)),
+            hand(&named("addend"), read(&[&[1, 0], &bad], 4), (5, 15, 0)),
+            hand(&named("second offset"), read(&[&[2, 0, 0], &bad], 4), (5, 16, 0)),
+            hand(&named("second addend"), read(&[&[2, 0, 0, 0], &bad], 4), (5, 17, 0)),
+            hand(&named("addend behind padding"), read(&[&[1], &ZERO, &bad], 4), (5, 24, 0)),
         ]);
     }
     hands
@@ -155,8 +155,8 @@ fn read_order() -> Vec<Hand> {
         hand("apa1_read 3 before 9", read_raw(b"APX1\x01\0\0", 0), (3, 0, 0)),
         hand("apa1_read 5 count before 8", read(&[&[0x40, 0, 0]], 4), (5, 4, 0)),
         hand("apa1_read 5 count before 5", read(&[&[0x7F], &LONG], 4), (5, 4, 0)),
-        hand("apa1_read 5 before 4", read(&[&[2], &LONG], 4), (5, 5, 0)),
-        hand("apa1_read 5 before 9", read(&[&[1], &LONG, &[0]], 0), (5, 5, 0)),
+        hand("apa1_read 5 before 4", read(&[&[2], &LONG], 4), (5, 14, 0)),
+        hand("apa1_read 5 before 9", read(&[&[1], &LONG, &[0]], 0), (5, 14, 0)),
         hand("apa1_read 4 before 9", read(&[&[2, 0, 0]], 0), (4, 7, 0)),
         hand("apa1_read 8", read(&[&I, &[0]], 2), (8, 10, 0)),
         hand("apa1_read 8 of an empty list", read(&[&[0, 0]], 2), (8, 5, 0)),

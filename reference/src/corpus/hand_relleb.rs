@@ -147,9 +147,9 @@ fn read_counts(class: u32) -> Vec<Hand> {
         ("count 2^64-1, none", read(&[&high10(1)], 2), (4, 10, 0)),
         ("count 2^64-1, one", read(&[&high10(1), &[0, 0, 0]], 2), (4, 13, 0)),
         ("count 2^63, none", read(&[&low10(1)], 2), (4, 10, 0)),
-        ("count 2^64", read(&[&low10(2)], 2), (5, 0, 0)),
-        ("count long", read(&[&LONG10], 2), (5, 0, 0)),
-        ("count -1", read(&[&high10(0x7F)], 2), (5, 0, 0)),
+        ("count 2^64", read(&[&low10(2)], 2), (5, 9, 0)),
+        ("count long", read(&[&LONG10], 2), (5, 9, 0)),
+        ("count -1", read(&[&high10(0x7F)], 2), (5, 9, 0)),
         ("count cut", read(&[&LONG10[..9]], 2), (4, 9, 0)),
         ("count 127, none", read(&[&[0x7F]], 2), (4, 1, 0)),
         ("count 64, none", read(&[&[0x40]], 2), (4, 1, 0)),
@@ -157,22 +157,28 @@ fn read_counts(class: u32) -> Vec<Hand> {
     named("relleb_read", class, cases)
 }
 
+/// From the first byte of a number of width W to its last allowed byte.
+fn to_last(class: u32) -> u64 {
+    if class == 4 { 4 } else { 9 }
+}
+
 /// Numbers outside widths 32 (type) and 33 (symbol), and any longer than
 /// their width allows.
 fn read_numbers(class: u32) -> Vec<Hand> {
+    let to_last = to_last(class);
     let read = |pieces: &[&[u8]], room| read(class, pieces, room);
     let cases = [
-        ("offset long", read(&[&[1], &LONG10, &[0, 0]], 2), (5, 1, 0)),
-        ("type long", read(&[&[1, 0], &LONG5, &[0]], 2), (5, 2, 0)),
-        ("type 2^31", read(&[&[1, 0], &low5(0x08), &[0]], 2), (5, 2, 0)),
-        ("type -2^31-1", read(&[&[1, 0], &high5(0x77), &[0]], 2), (5, 2, 0)),
-        ("symbol long", read(&[&[1, 0, 0], &LONG5], 2), (5, 3, 0)),
-        ("symbol 2^32", read(&[&[1, 0, 0], &low5(0x10)], 2), (5, 3, 0)),
-        ("symbol -2^32-1", read(&[&[1, 0, 0], &high5(0x6F), &[0]], 2), (5, 3, 0)),
-        ("addend long", read(&[&[1, 0, 0, 0x7F], &LONG10], 2), (5, 4, 0)),
+        ("offset long", read(&[&[1], &LONG10, &[0, 0]], 2), (5, 1 + to_last, 0)),
+        ("type long", read(&[&[1, 0], &LONG5, &[0]], 2), (5, 6, 0)),
+        ("type 2^31", read(&[&[1, 0], &low5(0x08), &[0]], 2), (5, 6, 0)),
+        ("type -2^31-1", read(&[&[1, 0], &high5(0x77), &[0]], 2), (5, 6, 0)),
+        ("symbol long", read(&[&[1, 0, 0], &LONG5], 2), (5, 7, 0)),
+        ("symbol 2^32", read(&[&[1, 0, 0], &low5(0x10)], 2), (5, 7, 0)),
+        ("symbol -2^32-1", read(&[&[1, 0, 0], &high5(0x6F), &[0]], 2), (5, 7, 0)),
+        ("addend long", read(&[&[1, 0, 0, 0x7F], &LONG10], 2), (5, 4 + to_last, 0)),
         ("addend missing", read(&[&[1, 0, 0, 0x7F]], 2), (4, 4, 0)),
-        ("second type", read(&[&[2, 0, 0, 0, 9], &LONG5, &[0]], 2), (5, 5, 0)),
-        ("second addend", read(&[&[2, 0, 0, 0, 9, 0, 0x40], &LONG10], 2), (5, 7, 0)),
+        ("second type", read(&[&[2, 0, 0, 0, 9], &LONG5, &[0]], 2), (5, 9, 0)),
+        ("second addend", read(&[&[2, 0, 0, 0, 9, 0, 0x40], &LONG10], 2), (5, 7 + to_last, 0)),
     ];
     named("relleb_read", class, cases)
 }
@@ -187,14 +193,14 @@ fn read_widths() -> Vec<Hand> {
     let up10 = join(&[&[2, 0, 0, 0x7F], &high10(0), &[0, 0, 0x7F, 1]]);
     vec![
         hand("relleb_read offset 2^32-1, 4", offset(4, &high5(0x0F)), (0, 0, 1)),
-        hand("relleb_read offset 2^32, 4", offset(4, &low5(0x10)), (5, 1, 0)),
+        hand("relleb_read offset 2^32, 4", offset(4, &low5(0x10)), (5, 5, 0)),
         hand("relleb_read offset 2^32, 8", offset(8, &low5(0x10)), (0, 0, 1)),
         hand("relleb_read offset 2^64-1, 8", offset(8, &high10(1)), (0, 0, 1)),
-        hand("relleb_read offset 2^64, 8", offset(8, &low10(2)), (5, 1, 0)),
+        hand("relleb_read offset 2^64, 8", offset(8, &low10(2)), (5, 10, 0)),
         hand(
             "relleb_read offset six bytes, 4",
             offset(4, &[0x80, 0x80, 0x80, 0x80, 0x80, 0]),
-            (5, 1, 0),
+            (5, 5, 0),
         ),
         hand(
             "relleb_read offset six bytes, 8",
@@ -203,13 +209,13 @@ fn read_widths() -> Vec<Hand> {
         ),
         hand("relleb_read addend largest, 4", addend(4, &high5(7)), (0, 0, 1)),
         hand("relleb_read addend least, 4", addend(4, &low5(0x78)), (0, 0, 1)),
-        hand("relleb_read addend 2^31, 4", addend(4, &low5(8)), (5, 4, 0)),
-        hand("relleb_read addend -2^31-1, 4", addend(4, &high5(0x77)), (5, 4, 0)),
+        hand("relleb_read addend 2^31, 4", addend(4, &low5(8)), (5, 8, 0)),
+        hand("relleb_read addend -2^31-1, 4", addend(4, &high5(0x77)), (5, 8, 0)),
         hand("relleb_read addend 2^31, 8", addend(8, &low5(8)), (0, 0, 1)),
         hand("relleb_read addend largest, 8", addend(8, &high10(0)), (0, 0, 1)),
         hand("relleb_read addend least, 8", addend(8, &low10(0x7F)), (0, 0, 1)),
-        hand("relleb_read addend 2^63, 8", addend(8, &low10(1)), (5, 4, 0)),
-        hand("relleb_read addend -2^63-1, 8", addend(8, &high10(0x7E)), (5, 4, 0)),
+        hand("relleb_read addend 2^63, 8", addend(8, &low10(1)), (5, 13, 0)),
+        hand("relleb_read addend -2^63-1, 8", addend(8, &high10(0x7E)), (5, 13, 0)),
         hand("relleb_read offset wraps 4", read(4, &[&wraps5], 2), (0, 0, 2)),
         hand("relleb_read offset passes 2^32, 8", read(8, &[&wraps5], 2), (0, 0, 2)),
         hand("relleb_read offset wraps 8", read(8, &[&wraps10], 2), (0, 0, 2)),
@@ -243,6 +249,7 @@ fn read_columns(class: u32) -> Vec<Hand> {
 }
 
 fn read_order(class: u32) -> Vec<Hand> {
+    let to_last = to_last(class);
     let read = |pieces: &[&[u8]], room| read(class, pieces, room);
     let cases = [
         ("8", read(&[&P, &[0]], 2), (8, 9, 0)),
@@ -251,11 +258,11 @@ fn read_order(class: u32) -> Vec<Hand> {
         ("8 before 9", read(&[&P, &[0]], 0), (8, 9, 0)),
         ("8 before 9, one short", read(&[&P, &[0, 0]], 1), (8, 9, 0)),
         ("4 before 9", read(&[&P[..8]], 0), (4, 8, 0)),
-        ("5 before 9", read(&[&[1, 0], &LONG5, &[0]], 0), (5, 2, 0)),
-        ("5 before 4", read(&[&[9, 0], &LONG5], 2), (5, 2, 0)),
-        ("5 type before 5 symbol", read(&[&[1, 0], &LONG5, &LONG5], 2), (5, 2, 0)),
-        ("5 offset before 5 type", read(&[&[1], &LONG10, &LONG5], 2), (5, 1, 0)),
-        ("5 before 8", read(&[&[1, 0, 0], &LONG5, &[0, 0, 0]], 2), (5, 3, 0)),
+        ("5 before 9", read(&[&[1, 0], &LONG5, &[0]], 0), (5, 6, 0)),
+        ("5 before 4", read(&[&[9, 0], &LONG5], 2), (5, 6, 0)),
+        ("5 type before 5 symbol", read(&[&[1, 0], &LONG5, &LONG5], 2), (5, 6, 0)),
+        ("5 offset before 5 type", read(&[&[1], &LONG10, &LONG5], 2), (5, 1 + to_last, 0)),
+        ("5 before 8", read(&[&[1, 0, 0], &LONG5, &[0, 0, 0]], 2), (5, 7, 0)),
     ];
     named("relleb_read", class, cases)
 }
