@@ -50,7 +50,6 @@ impl<'a> Reader<'a> {
     /// byte and the bits left for it.
     #[inline]
     fn digits(&mut self, bits: u32, fits: impl Fn(u8, u32) -> bool) -> Result<(u64, u32), Refusal> {
-        let start = self.at;
         let (mut value, mut used) = (0, 0);
         loop {
             let Some(&byte) = self.table.get(self.at) else {
@@ -61,7 +60,8 @@ impl<'a> Reader<'a> {
             let room = bits - used;
             used += 7;
             if room <= 7 {
-                return if fits(byte, room) { Ok((value, used)) } else { refuse(WIDTH, start) };
+                let last = self.at - 1;
+                return if fits(byte, room) { Ok((value, used)) } else { refuse(WIDTH, last) };
             }
             if byte < 0x80 {
                 return Ok((value, used));
