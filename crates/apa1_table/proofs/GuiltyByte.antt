@@ -18,7 +18,7 @@ use Rattle.leb128.specs.declared.Unsigned.{Unsigned}
 use Rattle.leb128.specs.declared.Unsigned.the-variants.{Refused as URefused}
 use Rattle.leb128.proofs.GuiltyByte.{signed-outside}
 use Rattle.records.specs.Identifier.{startsWith}
-use Rattle.records.proofs.Refusals.{Said, OfFive, another, OfUnsigned, OfSigned, OfStep, OfOutcome, of-signed, of-either, of-limited, of-counted}
+use Rattle.records.proofs.Refusals.{Said, OfFive, another, OfUnsigned, OfSigned, OfStep, OfOutcome, of-signed, of-cond, of-limited, of-counted}
 use Rattle.apa1_table.specs.Table.{Row, start, identifier, secondOf, firstOf, stepAt, countOf, headAt, parse, decode}
 use Rattle.apa1_table.specs.GuiltyByte.{WidthFault}
 
@@ -53,7 +53,7 @@ module _ (s : List ℕ) (bytes : Bytes s) where
   head : OfUnsigned Five (headAt s)
   unfolding headAt
   head =
-      of-either Five (startsWith identifier s) (countOf (readSigned 64 s (length identifier))) (URefused Identifier 0)
+      of-cond (OfUnsigned Five) (startsWith identifier s) (countOf (readSigned 64 s (length identifier))) (URefused Identifier 0)
       (counts (readSigned 64 s (length identifier)) refl (number (length identifier))) (another (WidthFault s) Identifier 0 (λ e. omega arith))
 
   whole : OfOutcome Five (decode s)

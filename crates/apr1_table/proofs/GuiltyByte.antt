@@ -15,7 +15,7 @@ use Rattle.leb128.specs.declared.Unsigned.the-variants.{Value, Refused}
 use Rattle.leb128.proofs.GuiltyByte.{unsigned-outside}
 use Rattle.records.specs.Identifier.{startsWith}
 use Rattle.records.specs.Reading.{one, none, records}
-use Rattle.records.proofs.Refusals.{Said, OfFive, another, OfUnsigned, OfStep, OfOutcome, of-unsigned, of-tested, of-cond, of-limited, of-records}
+use Rattle.records.proofs.Refusals.{Said, OfFive, another, OfUnsigned, OfStep, OfOutcome, of-unsigned, of-cond, of-limited, of-records}
 use Rattle.apr1_table.specs.Table.{Pair, pair, reach, identifier, last, inside, secondOf, firstOf, stepAt, joined, withFirst, withCount, parse, decode}
 use Rattle.apr1_table.specs.GuiltyByte.{WidthFault}
 
@@ -29,7 +29,7 @@ module _ (s : List ℕ) (bytes : Bytes s) where
 
   second : (at x c : ℕ) (u : Unsigned) → OfUnsigned Five u → OfStep Five (secondOf at x c u)
   unfolding secondOf
-  second at x c (Value d past) h = of-tested Five (inside x c d) (one (pair c d) past (reach x (pair c d))) (none Space at) tt (another (WidthFault s) Space at (λ e. omega arith))
+  second at x c (Value d past) h = of-cond (OfStep Five) (inside x c d) (one (pair c d) past (reach x (pair c d))) (none Space at) tt (another (WidthFault s) Space at (λ e. omega arith))
   second at x c (Refused why p) h = h
 
   first : (at x : ℕ) (u : Unsigned) → OfUnsigned Five u → OfStep Five (firstOf s at x u)
@@ -50,7 +50,7 @@ module _ (s : List ℕ) (bytes : Bytes s) where
   unfolding withFirst
   from-first n at (Value a past) h =
       let rest = records (stepAt s) (length s) n past a in
-      of-cond Five (leb a last) (joined a rest) (refused Space at)
+      of-cond (OfOutcome Five) (leb a last) (joined a rest) (refused Space at)
       (joins a rest (of-records Five (stepAt s) (length s) step (λ i. another (WidthFault s) Trailing i (λ e. omega arith)) n past a)) (another (WidthFault s) Space at (λ e. omega arith))
   from-first n at (Refused why p) h = h
 
@@ -63,7 +63,7 @@ module _ (s : List ℕ) (bytes : Bytes s) where
   unfolding decode parse
   whole =
       of-limited Five inputLimit (length s) (parse s) (another (WidthFault s) Limit 0 (λ e. omega arith))
-      (of-cond Five (startsWith identifier s) (withCount s (readUnsigned 32 s (length identifier))) (refused Identifier 0)
+      (of-cond (OfOutcome Five) (startsWith identifier s) (withCount s (readUnsigned 32 s (length identifier))) (refused Identifier 0)
       (from-count (readUnsigned 32 s (length identifier)) (number (length identifier))) (another (WidthFault s) Identifier 0 (λ e. omega arith)))
 
   pub decode-guilty : {p : ℕ} → decode s ≡ refused Width p → WidthFault s p

@@ -1,1 +1,1 @@
-// What is promised of the calls, in the papers' words: theorems about the calls' contracts, in proofs/Demands.antt.
+// What is promised of the calls, in the papers' words: theorems about the calls' contracts, in proofs/.

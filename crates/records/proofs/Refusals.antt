@@ -50,22 +50,15 @@ pub of-signed : (P : Said) (u : Signed) → ((why : Refusal) (p : ℕ) → u ≡
 of-signed P (signed.Value z next) h = tt
 of-signed P (signed.Refused why p) h = h why p refl
 
-pub of-either : (P : Said) (t : Bool) (u v : Unsigned) → OfUnsigned P u → OfUnsigned P v → OfUnsigned P (cond t u v)
-of-either P true u v h k = h
-of-either P false u v h k = k
-
-pub of-tested : {S A : Type 0} (P : Said) (t : Bool) (x y : Step S A) → OfStep P x → OfStep P y → OfStep P (cond t x y)
-of-tested P true x y h k = h
-of-tested P false x y h k = k
+-- of two, by a test
+pub of-cond : {X : Type 0} (Q : X → Type 0) (t : Bool) (x y : X) → Q x → Q y → Q (cond t x y)
+of-cond Q true x y h k = h
+of-cond Q false x y h k = k
 
 module _ {A : Type 0} (P : Said) where
-  pub of-cond : (t : Bool) (o u : Outcome A) → OfOutcome P o → OfOutcome P u → OfOutcome P (cond t o u)
-  of-cond true o u h k = h
-  of-cond false o u h k = k
-
   -- after refusal 2
   pub of-limited : (limit n : ℕ) (o : Outcome A) → P Limit 0 → OfOutcome P o → OfOutcome P (limited limit n o)
-  of-limited limit n o h k = of-cond (leb n limit) o (refused Limit 0) k h
+  of-limited limit n o h k = of-cond (OfOutcome P) (leb n limit) o (refused Limit 0) k h
 
   of-before : (x : A) (o : Outcome (List A)) → OfOutcome P o → OfOutcome P (before x o)
   unfolding before
@@ -75,7 +68,7 @@ module _ {A : Type 0} (P : Said) where
 module _ {S A : Type 0} (P : Said) (step : ℕ → S → Step S A) (end : ℕ) (steps : (at : ℕ) (st : S) → OfStep P (step at st)) (over : (at : ℕ) → P Trailing at) where
   pub of-records : (n at : ℕ) (st : S) → OfOutcome P (records step end n at st)
   unfolding records stepThen
-  of-records zero at st = of-cond P (ltb at end) (refused Trailing at) (accepted _) (over at) tt
+  of-records zero at st = of-cond (OfOutcome P) (ltb at end) (refused Trailing at) (accepted _) (over at) tt
   of-records (suc n) at st = go (step at st) (steps at st) (λ past next. of-records n past next)
     where
       go : (x : Step S A) → OfStep P x → ((past : ℕ) (next : S) → OfOutcome P (records step end n past next)) → OfOutcome P (stepThen x (records step end n))
