@@ -1,4 +1,4 @@
--- A table that is refused with 5 has a number outside its width of 64 bits, and the place is that of its last byte allowed; or its count
+-- A table that is refused with 5 has a number outside its width of 64 bits, and the place is that of its last allowed byte; or its count
 -- is negative, and the place is that of the count's first byte.
 -- Assumes nothing.
 use Prim.Native.Nat.{ℕ}

@@ -1,4 +1,4 @@
--- A table that is refused with 5 has a number outside its width of 32 bits, and the place is that of its last byte allowed.
+-- A table that is refused with 5 has a number outside its width of 32 bits, and the place is that of its last allowed byte.
 -- Assumes nothing.
 use Prim.Native.Nat.{ℕ}
 use mathlib.Core.Path.{_≡_, refl, subst}

@@ -1,4 +1,4 @@
--- Document 02, §4, as theorems about the calls that read numbers: an answer 5 places a number outside its width at its last byte allowed,
+-- Document 02, §4, as theorems about the calls that read numbers: an answer 5 places a number outside its width at its last allowed byte,
 -- and APA1's negative count at its first byte. Either way the place is that of a byte of the table. (A table is bytes: `Bytes s`.)
 -- Assumes nothing.
 use mathlib.Core.Bool.{Bool, true, false, cond}

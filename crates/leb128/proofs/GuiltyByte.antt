@@ -1,4 +1,4 @@
--- Where a number is refused with 5, once over the width B: exactly where its last byte allowed is `Guilty`. So the place is inside the
+-- Where a number is refused with 5, once over the width B: exactly where its last allowed byte is `Guilty`. So the place is inside the
 -- input, not before the number's first byte, and every byte of the number before it has its top bit set.
 -- Assumes nothing.
 use mathlib.Core.Path.{_≡_, refl, sym, ap, _∙_, subst}
@@ -24,7 +24,7 @@ use Rattle.leb128.proofs.Reading.{count-is, next-le, Spent, spent-there
 use Rattle.leb128.proofs.Laws.{Below, below}
 use Rattle.leb128.proofs.LastByte.{Digits, takes-unsigned, refuses-unsigned, takes-signed, refuses-signed}
 
--- the bytes before the last one allowed
+-- the bytes before the last allowed one
 digits-take : (j : ℕ) (l : List ℕ) → Bytes l → j ≤ length l → ((i : ℕ) → i < j → 128 ≤ getD l i 0) → Digits (take j l)
 digits-take zero l h k t = tt
 digits-take (suc j) [] h k t = tt
@@ -51,7 +51,7 @@ module _ (B : ℕ) (s : List ℕ) (at : ℕ) (wide : 0 < B) (bytes : Bytes s) wh
           e : at + (i - at) ≡ i
           e = omega arith
 
-  -- such a number is its bytes before the last one allowed, and then that one
+  -- such a number is its bytes before the last allowed one, and then that one
   module _ (full : Full B s at) where
     ds : List ℕ
     ds = take (count B - 1) (drop at s)
