@@ -131,6 +131,15 @@ fn n() {
     assert_eq!(image, [1, 0, 0, 0, 0, 0, 0, 0]);
 }
 
+/// The place of a 5 is the byte that makes the number leave its width.
+#[test]
+fn the_guilty_byte() {
+    let table = b"APR1\x80\x80\x80\x80\x10\x00";
+    let refusal = apr1_read(table, &mut [0; 4]).unwrap_err();
+    assert_eq!(refusal.kind(), Kind::Width);
+    assert_eq!(table[refusal.place as usize], 0x10);
+}
+
 #[test]
 fn a_refusal_tells_its_kind() {
     let refusal = relr_write(8, &[4, 5], &mut []).unwrap_err();

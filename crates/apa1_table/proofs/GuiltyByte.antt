@@ -3,7 +3,7 @@
 -- Assumes nothing.
 use Prim.Native.Nat.{ℕ}
 use mathlib.Core.List.{List}
-use mathlib.Core.Logic.{_⊎_, inl, inr}
+use mathlib.Core.Logic.{inl, inr}
 use mathlib.Core.Path.{_≡_, refl, subst}
 use lib.IntN.{ℤ, pos, negsuc}
 use lib.ListN.{length}
@@ -14,7 +14,6 @@ use Rattle.answer.specs.Outcome.{refused, inputLimit}
 use Rattle.leb128.specs.Number.{readSigned}
 use Rattle.leb128.specs.declared.Signed.{Signed}
 use Rattle.leb128.specs.declared.Signed.the-variants.{Value, Refused}
-use Rattle.leb128.specs.declared.Unsigned.{Unsigned}
 use Rattle.leb128.specs.declared.Unsigned.the-variants.{Refused as URefused}
 use Rattle.leb128.proofs.GuiltyByte.{signed-outside}
 use Rattle.records.specs.Identifier.{startsWith}

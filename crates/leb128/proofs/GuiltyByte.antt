@@ -15,7 +15,7 @@ use lib.Signed.{mag}
 use borrow.Author.Tests.{ltb-false}
 use Rattle.answer.specs.Bytes.{Bytes, bytes-drop}
 use Rattle.answer.specs.declared.Refusal.{Refusal}
-use Rattle.answer.specs.declared.Refusal.the-variants.{Missing, Width}
+use Rattle.answer.specs.declared.Refusal.the-variants.{Width}
 use Rattle.leb128.specs.Number.{Raw, cut, long, got, raw, count, lastPlace, unsignedOf, readUnsigned, signed, signedOf, readSigned}
 use Rattle.leb128.specs.LastByte.{lastUnsigned, lastSigned, BadUnsigned, BadSigned, Guilty, OutsideUnsigned, OutsideSigned}
 use Rattle.leb128.specs.declared.Unsigned.the-variants.{Value as UValue, Refused as URefused}
