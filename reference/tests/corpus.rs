@@ -65,8 +65,7 @@ fn fields() -> Vec<(u8, u32, Field)> {
     fields.extend(apr1.map(|before| (APR1_READ, 0, (before.to_vec(), Unsigned(32)))));
     fields.extend(apa1.map(|before| (APA1_READ, 0, (before.to_vec(), Signed(64)))));
     for class in [4, 8] {
-        let kinds =
-            [Unsigned(64), Unsigned(8 * class), Signed(32), Signed(33), Signed(8 * class)];
+        let kinds = [Unsigned(64), Unsigned(8 * class), Signed(32), Signed(33), Signed(8 * class)];
         // -1 in the symbol's place lets an addend follow
         let record = [1, 0, 0, 0x7F];
         for (length, kind) in kinds.into_iter().enumerate() {
