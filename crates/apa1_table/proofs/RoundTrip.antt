@@ -8,6 +8,7 @@ use native.Mathlib.Omega.{arith}
 use lib.IntN.{ℤ, pos, _+ℤ_, _-ℤ_}
 use lib.ListN.{length, getD, length-append}
 use lib.Signed.{mag}
+use Rattle.answer.specs.Limits.{list-most, list-small}
 use Rattle.answer.specs.Outcome.{accepted, inputLimit, listLimit}
 use Rattle.answer.specs.Outcome.Laws.{Accepts}
 use Rattle.answer.specs.Outcome.Laws as Outcome
@@ -93,13 +94,17 @@ encode-accepts l h = let a = build-accepts l in record { list = a .list; is = en
 pub encode-legal : (l : List Row) {b : List ℕ} → encode l ≡ accepted b → length l ≤ listLimit
 encode-legal l e = encode-accepted l e .0
 
--- its table is within the input's limit
+-- its table has so many bytes
+pub encode-most : (l : List Row) {b : List ℕ} → encode l ≡ accepted b → length b ≤ 14 + 20 * length l
+encode-most l e = let (h, f) = encode-accepted l e in build-most l (omega (arith, list-small)) f
+
+-- and is within the input's limit
 pub encode-fits : (l : List Row) {b : List ℕ} → encode l ≡ accepted b → length b ≤ inputLimit
-encode-fits l e = let (h, f) = encode-accepted l e in omega (arith, build-most l (omega arith) f)
+encode-fits l e = omega (arith, encode-most l e, encode-legal l e, list-most)
 
 -- the round trip: it decodes to the list
 pub decode-encode : (l : List Row) {b : List ℕ} → encode l ≡ accepted b → Each Fine l → decode b ≡ accepted l
-decode-encode l {b} e f = let (h, g) = encode-accepted l e in decode-in b (encode-fits l e) ∙ parse-build l (omega arith) f g
+decode-encode l {b} e f = let (h, g) = encode-accepted l e in decode-in b (encode-fits l e) ∙ parse-build l (omega (arith, list-small)) f g
 
 -- ---- the records of two columns
 module _ (os : List ℕ) (us : List ℤ) (same : length os ≡ length us) where

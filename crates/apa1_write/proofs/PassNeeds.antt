@@ -14,6 +14,7 @@ use borrow.Author.Count.{below-more}
 use borrow.Author.Needs.{needs, sfits-of}
 use Rattle.answer.specs.declared.Refusal.the-variants.{Limit}
 use Rattle.answer.specs.declared.Found.the-variants as found
+use Rattle.answer.specs.Limits.{list-small}
 use Rattle.answer.specs.Outcome.{Outcome, listLimit, after, foundOf}
 use Rattle.answer.specs.Outcome.Laws.{accepted-refused, found-refused}
 use Rattle.answer.specs.Written.{Written}
@@ -42,12 +43,12 @@ pub record Sizing (os : List ℕ) (us : List ℤ) (total o w i : ℕ) : Type 0 w
   pub small : (j : ℕ) → j < i → mag (getD us j (pos 0)) < 2 ^ 63
 
 pub size-few : {os : List ℕ} {us : List ℤ} → Listed os us → length os < 2 ^ 63
-size-few l = omega (arith, l .few)
+size-few l = omega (arith, l .few, list-small)
 
 pub size-begin : {os : List ℕ} {us : List ℤ} {total : ℕ} → Listed os us → total ≡ length (headOf (length os)) → Sizing os us total 0 0 0
 size-begin {os} {us} l e =
     let n = rows-length os us (l .same) in
-    let m = head-most (length (rows os us)) (omega (arith, l .few)) in
+    let m = head-most (length (rows os us)) (omega (arith, l .few, list-small)) in
     record {
       sized = rw (build-is (rows os us), e, ← n) (sized-none putOf behind (rows os us) (headOf (length (rows os us))) 20 start (omega arith));
       within = omega arith;
@@ -57,7 +58,7 @@ size-begin {os} {us} l e =
 module _ {os : List ℕ} {us : List ℤ} {total o w i : ℕ} (l : Listed os us) (g : Sizing os us total o w i) where
   module _ {r : ℕ} (h : i < length os) (m : mag (getD us i (pos 0)) < 2 ^ 63) (e : r ≡ length (entryBytes (row o (toZ w64 w)) (row (getD os i 0) (Bits (getD us i (pos 0)))))) where
     pub size-sum : Fits w64 (total + r)
-    size-sum = record { fits = omega (arith, g .sized .few, l .few, entry-most (row o (toZ w64 w)) (row (getD os i 0) (Bits (getD us i (pos 0))))) }
+    size-sum = record { fits = omega (arith, g .sized .few, l .few, list-small, entry-most (row o (toZ w64 w)) (row (getD os i 0) (Bits (getD us i (pos 0))))) }
 
     pub size-more : Sizing os us (total + r) (getD os i 0) (ofZ w64 (getD us i (pos 0))) (i + 1)
     size-more =
@@ -126,7 +127,7 @@ module _ (os : List ℕ) (us : List ℤ) (old : List ℕ) (f : Puttable (encode 
   all = rw (← whole) (f .fits)
 
   pub fill-few : length os < 2 ^ 63
-  fill-few = omega (arith, within, rows-length os us (f .same))
+  fill-few = omega (arith, within, rows-length os us (f .same), list-small)
 
   pub fill-head : 0 + length (headOf (length os)) ≤ length old
   fill-head = head-room (headOf (length os)) (body os us) all

@@ -12,6 +12,7 @@ use lib.Dec.{eqb, leb}
 use lib.ListN.{length, drop, length-append}
 use borrow.Author.Tests.{ne-eqb, eqb-true, le-leb, lt-leb}
 use Rattle.answer.specs.declared.Refusal.the-variants as why
+use Rattle.answer.specs.Limits.{list-most, list-small}
 use Rattle.answer.specs.Outcome.{Outcome, accepted, inputLimit, listLimit, refused}
 use Rattle.answer.specs.Outcome.Laws.{accepted-refused, limited-over, limited-in, limited-accepted}
 use Rattle.leb128.specs.Number.{readUnsigned, shortUnsigned}
@@ -148,11 +149,11 @@ whole a (y ∷ l) h r =
     (record { stays = m .stays; fine = m .fine; gives = m .gives ∙ one-run a (y - a) l ∙ rw q; few = omega (arith, m .few) })
 
 -- ---- how many bytes
-pairs-most : (ps : List Pair) → Each Fine ps → length (pairBytes ps) ≤ 20 * length ps
+pairs-most : (ps : List Pair) → Each Fine ps → length (pairBytes ps) ≤ 10 * length ps
 pairs-most [] f = rw pair-bytes-none (omega arith)
 pairs-most (p ∷ ps) f =
     rw pair-bytes-more
-    (omega (arith, length-append (onePair p) (pairBytes ps), pairs-most ps (f .1), one-most (p .count) (p .gap) (omega (arith, f .0 .0)) (omega (arith, f .0 .1))))
+    (omega (arith, length-append (onePair p) (pairBytes ps), pairs-most ps (f .1), one-most 32 (p .count) (p .gap) (omega arith) (f .0 .0) (f .0 .1)))
 
 -- ---- the pairs read back
 -- a pair's bytes behind an offset from which it stays inside the space
@@ -208,7 +209,7 @@ parse-build l some few r =
     let u : (0 ≤ a) × (a ≤ last) × Rising (suc a) (drop 1 l) = subst (Rising 0) q r in
     let m = whole a (drop 1 l) (u .1) (subst (λ (n : ℕ). Rising n (drop 1 l)) (sym (add-one a)) (u .2)) in
     let n : ℕ = length (pairsIn l) in
-    let k : n < 2 ^ 32 = omega (arith, m .few, ap length q) in
+    let k : n < 2 ^ 32 = omega (arith, m .few, ap length q, list-small) in
     let v : a < 2 ^ 32 = omega (arith, u .1) in
     let b = pairBytes (pairsIn l) in
     let e : tableIn l ≡ headOf n a ++ b = table-bytes l in
@@ -226,21 +227,24 @@ parse-build l some few r =
     parse-at (tableIn l) n a _ _ s c d (u .1) (ap (λ (i : ℕ). records (stepAt (tableIn l)) (length (tableIn l)) n i a) h ∙ z)
     ∙ ap accepted (ap (λ (t : List ℕ). a ∷ t) (m .gives) ∙ sym q)
 
-table-fits : (l : List ℕ) → Writable l → length (tableIn l) ≤ inputLimit
-table-fits l w =
+-- a table has at most 4 bytes, and 10 for each offset
+pub table-most : (l : List ℕ) → Writable l → length (tableIn l) ≤ 4 + 10 * length l
+table-most l w =
     let q : l ≡ headIn l ∷ drop 1 l = from-head l (w .some) in
     let u : (0 ≤ headIn l) × (headIn l ≤ last) × Rising (suc (headIn l)) (drop 1 l) = subst (Rising 0) q (w .rising) in
     let m = whole (headIn l) (drop 1 l) (u .1) (subst (λ (n : ℕ). Rising n (drop 1 l)) (sym (add-one (headIn l))) (u .2)) in
     omega (
       arith,
-      w .few,
       ap length (table-bytes l),
       length-append (headOf (length (pairsIn l)) (headIn l)) (pairBytes (pairsIn l)),
       pairs-most (pairsIn l) (m .fine),
       m .few,
       ap length q,
-      head-most (length (pairsIn l)) (headIn l) (omega (arith, m .few, ap length q, w .few)) (omega (arith, u .1)),
+      head-most (length (pairsIn l)) (headIn l) (omega (arith, m .few, ap length q, w .few, list-small)) (omega (arith, u .1)),
     )
+
+table-fits : (l : List ℕ) → Writable l → length (tableIn l) ≤ inputLimit
+table-fits l w = omega (arith, table-most l w, w .few, list-most)
 
 -- ---- what is written
 module _ (l : List ℕ) {b : List ℕ} (e : encode l ≡ accepted b) where

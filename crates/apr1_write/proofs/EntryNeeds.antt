@@ -31,7 +31,7 @@ module _ (c d : ℕ) where
   head-is = head-bytes c d ∙ ap (λ (b : List ℕ). identifier ++ b) (sym (one-bytes c d))
 
   pub len-first : {r : ℕ} → r ≡ length (onePair (pair c d)) → c < 2 ^ 64 → d < 2 ^ 64 → Fits w64 (4 + r)
-  len-first e h k = record { fits = omega (arith, one-most c d h k) }
+  len-first e h k = record { fits = omega (arith, one-most 64 c d (omega arith) h k) }
 
   pub len-head : {r : ℕ} → r ≡ length (onePair (pair c d)) → 4 + r ≡ length (headOf c d)
   len-head e = rw head-is (omega (arith, length-append identifier (onePair (pair c d))))

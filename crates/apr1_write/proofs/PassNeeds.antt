@@ -13,6 +13,7 @@ use borrow.Author.Needs.{needs}
 use Rattle.answer.specs.declared.Answer.{Answer}
 use Rattle.answer.specs.declared.Refusal.{Refusal}
 use Rattle.answer.specs.declared.Refusal.the-variants.{Order, Space, Limit, Empty}
+use Rattle.answer.specs.Limits.{list-small}
 use Rattle.answer.specs.Outcome.{Outcome, accepted, refused, success, refusal, noRoom, listLimit, itself, foundOf, Gives, filled}
 use Rattle.answer.specs.Outcome.Laws.{filled-self, found-accepted, gives-refused, gives-short, gives-full}
 use Rattle.answer.specs.Written.{Written, written-then, written-long}
@@ -28,7 +29,7 @@ use Rattle.apr1_table.proofs.RoundTrip.{encode-over, encode-in, encode-accepts}
 -- ---- a run of k more equal gaps, which either pass counts
 module _ {l : List ℕ} {from y d k : ℕ} (r : Run l from y d k) where
   pub run-count : length l ≤ listLimit → Fits w64 (k + 1)
-  run-count h = record { fits = omega (arith, r .within) }
+  run-count h = record { fits = omega (arith, r .within, list-small) }
 
   pub run-product : Fits w64 (k * d)
   run-product = record { fits = omega (arith, r .low) }
@@ -55,7 +56,7 @@ pub record Sizing (l : List ℕ) (a i x n b : ℕ) : Type 0 where
   pub counted : n ≡ length ps
   pub few : n ≤ i
   pub long : b ≡ length (pairBytes ps)
-  pub small : b ≤ 20 * i
+  pub small : b ≤ 10 * i
 
 module _ {l : List ℕ} {a : ℕ} (s : Sizable l) (e : a ≡ getD l 0 0) where
   pub size-far : last < a → build l ≡ refused Space 0
@@ -96,14 +97,14 @@ module _ {l : List ℕ} {a i x n b : ℕ} (s : Sizable l) (g : Sizing l a i x n 
 
       module _ {k : ℕ} (r : Run l (i + 1) y (y - x) k) where
         pub size-pairs : Fits w64 (n + 1)
-        size-pairs = record { fits = omega (arith, g .few, s .few) }
+        size-pairs = record { fits = omega (arith, g .few, s .few, list-small) }
 
         module _ {q : ℕ} (qe : q ≡ length (onePair (pair (k + 1) (y - x)))) where
-          most : q ≤ 20
-          most = rw qe (one-most (k + 1) (y - x) (omega (arith, r .within, s .few)) (omega arith))
+          most : q ≤ 10
+          most = rw qe (one-most 32 (k + 1) (y - x) (omega arith) (omega (arith, r .within, s .few, list-small)) (omega arith))
 
           pub size-bytes : Fits w64 (b + q)
-          size-bytes = record { fits = omega (arith, g .small, most, s .few) }
+          size-bytes = record { fits = omega (arith, g .small, most, s .few, list-small) }
 
           pub size-more : Sizing l a (i + 1 + k) (y + k * (y - x)) (n + 1) (b + q)
           size-more =
@@ -140,7 +141,7 @@ module _ {l : List ℕ} {a i x n b : ℕ} (s : Sizable l) (g : Sizing l a i x n 
     done = g .so none ∙ rw (drop-of-length-le l il) (append-nil (g .ps))
 
     pub size-total : {t : ℕ} → t ≡ length (headOf n a) → Fits w64 (t + b)
-    size-total e = record { fits = omega (arith, head-most n a (omega (arith, g .few, g .within, s .few)) (omega (arith, g .first)), g .small, g .within, s .few) }
+    size-total e = record { fits = omega (arith, head-most n a (omega (arith, g .few, g .within, s .few, list-small)) (omega (arith, g .first)), g .small, g .within, s .few, list-small) }
 
     pub size-end : {t : ℕ} → t ≡ length (headOf n a) → SizesIn l (sized.Table n (t + b))
     size-end e =

@@ -16,7 +16,7 @@ use Rattle.relr_table.specs.Contract.{changed, imageAfter}
 use Rattle.leb128.specs.Number.{raw, readUnsigned, signed, readSigned, short, shortBy, shortUnsigned, shortSigned}
 use Rattle.leb128.specs.declared.Unsigned.the-variants.{Value as UValue}
 use Rattle.leb128.specs.declared.Signed.the-variants.{Value as SValue}
-use Rattle.answer.specs.Outcome.{accepted, before, after}
+use Rattle.answer.specs.Outcome.{accepted, inputLimit, listLimit, before, after}
 use Rattle.records.specs.Columns.{Each}
 use Rattle.records.specs.Identifier.{startsWith}
 use Rattle.records.specs.Reading.{stepThen, records, counted}
@@ -77,7 +77,7 @@ worked =
 
 -- each of them holds
 pub claim : Each Holds worked
-unfolding Holds worked readUnsigned readSigned raw signed short shortBy before after
+unfolding Holds worked inputLimit listLimit readUnsigned readSigned raw signed short shortBy before after
     valueOf bytesIn wordAt withWord firstWords wordsOf bytesOfWords
     relr.marked relr.fit relr.anchored relr.read relr.falls relr.bit relr.word relr.first relr.write relr.table
     parse decode checked build encode leading contained targets added patched changed imageAfter

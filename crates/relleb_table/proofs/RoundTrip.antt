@@ -1,6 +1,6 @@
 -- Which lists the writer accepts; that its table is within the input's limit; and that it decodes to the list. All of it over the width W.
 -- Assumes nothing.
-use Prim.Native.Nat.{ℕ, _+_, _-_, _%_, _^_, _≤_, _<_}
+use Prim.Native.Nat.{ℕ, _+_, _*_, _-_, _%_, _^_, _≤_, _<_}
 use mathlib.Core.Path.{_≡_, refl, ap, sym, _∙_}
 use mathlib.Core.Bool.{Bool, true, false, cond}
 use mathlib.Core.List.{List, [], _++_, map, append-assoc, append-nil}
@@ -10,6 +10,7 @@ use lib.IntN.{ℤ, pos, negsuc, _+ℤ_, _-ℤ_}
 use lib.ListN.{length, getD, length-append}
 use lib.Signed.{mag}
 use borrow.Author.Tests.{lt-ltb, ltb-true}
+use Rattle.answer.specs.Limits.{list-most, list-small}
 use Rattle.answer.specs.Outcome.{Outcome, accepted, inputLimit, listLimit}
 use Rattle.answer.specs.Outcome.Laws.{Accepts}
 use Rattle.answer.specs.Outcome.Laws as Outcome
@@ -91,12 +92,12 @@ module _ (W : ℕ) (wide : IsWidth W) where
         wide .1,
       )
 
-  -- a table at the list's limit is within the input's
-  build-most : (l : List Row) {b : List ℕ} → length l ≤ listLimit → Each Fine l → build W l ≡ accepted b → length b ≤ inputLimit
+  -- a table has at most 10 bytes, and 30 for each record
+  build-most : (l : List Row) {b : List ℕ} → length l < 2 ^ 64 → Each Fine l → build W l ≡ accepted b → length b ≤ 10 + 30 * length l
   build-most l {b} h f e =
       let c = Outcome.behind (shortUnsigned (length l)) (puts (putOf W) behind 0 start l) (sym (build-is W l) ∙ e) in
       let m = puts-most (putOf W) behind Fine 30 entry-most l 0 start f (c .is) in
-      omega (arith, ap length (c .whole), length-append (shortUnsigned (length l)) (c .rest), unsigned-bytes 64 (length l) (omega arith) (omega arith))
+      omega (arith, ap length (c .whole), length-append (shortUnsigned (length l)) (c .rest), unsigned-bytes 64 (length l) (omega arith) h)
 
   -- ---- the symbol field, and the addend's difference if it stands there
   symbol-back : (s pre post : List ℕ) (o t : ℕ) (base : ℤ) (x : Row) → x .symbol < 2 ^ 32 → mag (x .addend) < 2 ^ (W - 1)
@@ -172,13 +173,20 @@ module _ (W : ℕ) (l : List Row) where
   encode-legal e = let (h, f) = encode-accepted W l e in (h, build-legal W l f)
 
   module _ (wide : IsWidth W) {b : List ℕ} (e : encode W l ≡ accepted b) (fine : Each Fine l) where
-    -- its table is within the input's limit
+    few : length l < 2 ^ 64
+    few = omega (arith, encode-accepted W l e .0, list-small)
+
+    -- its table has so many bytes
+    pub encode-most : length b ≤ 10 + 30 * length l
+    encode-most = build-most W wide l few fine (encode-accepted W l e .1)
+
+    -- and is within the input's limit
     pub encode-fits : length b ≤ inputLimit
-    encode-fits = let (h, f) = encode-accepted W l e in build-most W wide l h fine f
+    encode-fits = omega (arith, encode-most, encode-accepted W l e .0, list-most)
 
     -- the round trip: it decodes to the list
     pub decode-encode : decode W b ≡ accepted l
-    decode-encode = let (h, f) = encode-accepted W l e in decode-in W b encode-fits ∙ parse-build W wide l (omega arith) fine f
+    decode-encode = let (h, f) = encode-accepted W l e in decode-in W b encode-fits ∙ parse-build W wide l few fine f
 
 -- ---- the records of four columns
 module _ (os ts ys : List ℕ) (us : List ℤ) (s : Same os ts ys us) where

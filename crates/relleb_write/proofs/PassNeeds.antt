@@ -14,6 +14,7 @@ use borrow.Author.Needs.{needs, sfits-of}
 use Rattle.answer.specs.declared.Refusal.{Refusal}
 use Rattle.answer.specs.declared.Refusal.the-variants.{Limit}
 use Rattle.answer.specs.declared.Found.the-variants as found
+use Rattle.answer.specs.Limits.{list-small}
 use Rattle.answer.specs.Outcome.{Outcome, listLimit, after, foundOf}
 use Rattle.answer.specs.Outcome.Laws.{accepted-refused, found-refused, found-count, not-found}
 use Rattle.answer.specs.Written.{Written}
@@ -63,7 +64,7 @@ pub record Sizing (W : ℕ) (os ts ys : List ℕ) (us : List ℤ) (total o t w i
 pub size-begin : (W : ℕ) {os ts ys : List ℕ} {us : List ℤ} {total : ℕ} → Listed os ts ys us → total ≡ length (shortUnsigned (length os)) → Sizing W os ts ys us total 0 0 0 0
 size-begin W {os} {ts} {ys} {us} l e =
     let n = many os ts ys us (l .same) in
-    let k = unsigned-bytes 64 (length (rows os ts ys us)) (omega arith) (omega (arith, l .few)) in
+    let k = unsigned-bytes 64 (length (rows os ts ys us)) (omega arith) (omega (arith, l .few, list-small)) in
     record {
       sized = rw (build-is W (rows os ts ys us), e, ← n) (sized-none (putOf W) behind (rows os ts ys us) (shortUnsigned (length (rows os ts ys us))) 40 start (omega arith));
       within = omega arith;
@@ -76,7 +77,7 @@ module _ {W : ℕ} {os ts ys : List ℕ} {us : List ℤ} {total o t w i : ℕ} (
   module _ {x : Fields} {d : ℕ} {q f a : ℤ} {r : ℕ} (h : i < length os) (m : mag (getD us i (pos 0)) < 2 ^ 63) (e : fieldsPut x ≡ putOf W (state o t (toZ w64 w)) (rowAt os ts ys us i))
       (k : x ≡ Numbers d q f a) (i₁ : Bits q ≡ q) (i₂ : Bits f ≡ f) (i₃ : Bits a ≡ a) (n : Measured r (fieldBytes d (Bits q) (Bits f) (Bits a))) where
     pub size-sum : Fits w64 (total + r)
-    size-sum = record { fits = omega (arith, g .sized .few, g .within, l .few, n .few) }
+    size-sum = record { fits = omega (arith, g .sized .few, g .within, l .few, n .few, list-small) }
 
     pub size-more : Sizing W os ts ys us (total + r) (getD os i 0) (getD ts i 0) (ofZ w64 (getD us i (pos 0))) (i + 1)
     size-more =

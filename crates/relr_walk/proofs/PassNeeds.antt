@@ -16,6 +16,7 @@ use Rattle.answer.specs.declared.Refusal.the-variants.{Limit, Missing, Space, O
 use Rattle.answer.specs.declared.Found.{Found}
 use Rattle.answer.specs.declared.Found.the-variants.{Count}
 use Rattle.answer.specs.declared.Found.the-variants as found
+use Rattle.answer.specs.Limits.{input-most}
 use Rattle.answer.specs.Outcome.{Outcome, foundOf, inputLimit}
 use Rattle.answer.specs.Outcome.Laws.{after-refused, found-refused}
 use Rattle.word.specs.declared.Class.{Class}
@@ -94,7 +95,7 @@ module _ {k : Class} {s : List ℕ} {bound at count first : ℕ} {p : Place} (h 
       go n e = omega arith
 
   scan-small : Whole k s → count < none
-  scan-small w = omega (arith, h .few, long w, w .few)
+  scan-small w = omega (arith, h .few, long w, w .few, input-most)
 
   pub scan-end : Whole k s → {r : Found} → r ≡ surveyed count first → length s ≤ at → r ≡ foundOf (contained (below bound) (wordsRead k s))
   scan-end w e l = e ∙ leads-end (h .counted) (scan-small w) (h .lead) (standing-end (h .standing) l)
@@ -171,7 +172,7 @@ module _ {k : Class} {s : List ℕ} {bound at count first start set : ℕ} {next
             marking = marking-set (h .marking) nz ce odd;
             fits = fit-append (bytesOf k) (spaceOf k) (h .passed) ((start + d) ∷ []) (h .fits) ∙ fit-one (bytesOf k) (spaceOf k) (start + d) a;
             counted = rw (← b) (omega (arith, h .counted, length-append (h .list ++ h .passed) ((start + d) ∷ [])));
-            lead = rw (← b, e) (leads-more (h .counted) (start + d) (omega (arith, h .few, marking-less (h .marking) nz, bytes-most k, w .few)) (h .lead));
+            lead = rw (← b, e) (leads-more (h .counted) (start + d) (omega (arith, h .few, marking-less (h .marking) nz, bytes-most k, w .few, input-most)) (h .lead));
             few = omega (arith, h .few);
           }
 
@@ -194,10 +195,10 @@ module _ {k : Class} {s : List ℕ} {bound at count first start set : ℕ} {next
     walk-dist ce = record { fits = omega (arith, marking-dist (h .marking) nz, bytes-most k) }
 
     pub walk-small : Whole k s → at < length s → count < 2 ^ 63
-    walk-small w l = omega (arith, h .few, marking-less (h .marking) nz, bytes-most k, w .few)
+    walk-small w l = omega (arith, h .few, marking-less (h .marking) nz, bytes-most k, w .few, input-most)
 
     pub walk-count : Whole k s → at < length s → Fits w64 (count + 1)
-    walk-count w l = record { fits = omega (arith, h .few, marking-less (h .marking) nz, bytes-most k, w .few) }
+    walk-count w l = record { fits = omega (arith, h .few, marking-less (h .marking) nz, bytes-most k, w .few, input-most) }
 
   pub walk-done : {c : ℕ} → c ≡ bytesOf k → bits ≡ 0 → Scanned k s bound (at + c) next count first
   walk-done ce z =

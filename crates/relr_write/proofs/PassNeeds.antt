@@ -19,6 +19,7 @@ use Rattle.answer.specs.declared.Refusal.{Refusal}
 use Rattle.answer.specs.declared.Refusal.the-variants.{Limit}
 use Rattle.answer.specs.declared.Found.the-variants.{Count}
 use Rattle.answer.specs.declared.Found.the-variants as found
+use Rattle.answer.specs.Limits.{list-small}
 use Rattle.answer.specs.Outcome.{Outcome, accepted, foundOf, listLimit, itself, Gives, filled}
 use Rattle.answer.specs.Outcome.Laws.{found-accepted, found-refused, found-count, buffer-more, buffer-long, filled-self, gives-not, gives-short, gives-full}
 use Rattle.answer.specs.declared.Answer.{Answer}
@@ -129,7 +130,7 @@ module _ {k : Class} {l : List ℕ} {i least b words : ℕ} {p : Place} (h : Siz
       sizing-next = let m : bitsOf k ≤ 64 = omega (arith, bytes-most k) in record { fits = omega (arith, ok .in-space, pow-mono m, bytes-least k) }
 
       pub sizing-add : length l ≤ listLimit → Fits w64 (words + 1)
-      sizing-add m = record { fits = omega (arith, h .few) }
+      sizing-add m = record { fits = omega (arith, h .few, list-small) }
 
       module _ {r : Packed} (pk : Packs k (record { place = p; bits = b }) x r) where
         acts : Acts k least (h .w) (record { place = p; bits = b }) x r
@@ -189,13 +190,12 @@ module _ {k : Class} {l : List ℕ} {i least b words : ℕ} {p : Place} (h : Siz
             }
 
   pub sizing-sum : length l ≤ listLimit → i ≤ length l → Fits w64 (words + b)
-  sizing-sum m q = record { fits = omega (arith, h .few) }
+  sizing-sum m q = record { fits = omega (arith, h .few, list-small) }
 
   pub sizing-product : {c : ℕ} → c ≡ bytesOf k → length l ≤ listLimit → i ≤ length l → Fits w64 ((words + b) * c)
   sizing-product {c} ce m q =
-      let e : words + b ≤ 2097152 = omega (arith, h .few) in
       let f : c ≤ 8 = omega (arith, bytes-most k) in
-      record { fits = omega (arith, mul-le-mul-right c e, mul-le-mul-left 2097152 f) }
+      record { fits = omega (arith, h .few, mul-le-mul-left (words + b) f, list-small) }
 
   pub sizing-end : {n c : ℕ} → n ≡ length l → n ≤ i → c ≡ bytesOf k → Count ((words + b) * c) ≡ foundOf (build k l)
   unfolding build Legal

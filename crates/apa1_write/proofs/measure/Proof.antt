@@ -1,12 +1,15 @@
+use Rattle.answer.specs.Outcome.{listLimit}
 use borrow.Author.Needs.{needs}
 use Rattle.apa1_write.proofs.PassNeeds.{measures}
 use Rattle.apa1_write.proofs.measure.Statement.{statement}
 use Rattle.apa1_write.proofs.measure.Tie as tie
 
 returns : tie.Need-returns
+unfolding listLimit
 returns c = search measures
 
 size-requires : tie.Need-size-requires
+unfolding listLimit
 size-requires c κs = search needs
 
 returns-2 : tie.Need-returns-2

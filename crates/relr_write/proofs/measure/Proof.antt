@@ -1,3 +1,4 @@
+use Rattle.answer.specs.Outcome.{listLimit}
 use Rattle.relr_write.proofs.PassNeeds.{measures}
 use borrow.Author.Needs.{needs}
 use Rattle.relr_write.proofs.measure.Statement.{statement}
@@ -7,24 +8,29 @@ use Rattle.relr_write.proofs.measure.Lts as lts
 use Rattle.relr_write.proofs.size_by.Reads as size-by-reads
 
 returns : tie.Need-returns
+unfolding listLimit
 returns c = search measures
 
 enum-told : tie.Need-enum-told
 enum-told c = search needs
 
 size-by-requires : tie.Need-size-by-requires
+unfolding listLimit
 size-by-requires c κs = search needs
 
 enum-told-2 : tie.Need-enum-told-2
 enum-told-2 c = search needs
 
 size-by-requires-2 : tie.Need-size-by-requires-2
+unfolding listLimit
 size-by-requires-2 c κs = search needs
 
 returns-2 : tie.Need-returns-2
+unfolding listLimit
 returns-2 c = search measures
 
 returns-3 : tie.Need-returns-3
+unfolding listLimit
 returns-3 c = search measures
 
 pub measure-spec : {M : Type 1} → statement M
