@@ -21,7 +21,7 @@ use Rattle.leb128.specs.LastByte.{lastUnsigned, lastSigned, BadUnsigned,
 use Rattle.leb128.specs.declared.Unsigned.the-variants.{Value as UValue, Refused as URefused}
 use Rattle.leb128.specs.declared.Signed.the-variants.{Value as SValue, Refused as SRefused}
 use Rattle.leb128.proofs.Reading.{count-is, next-le, Spent, spent-there, spent-unsigned, spent-signed}
-use Rattle.leb128.proofs.Laws.{Below, below}
+use Rattle.leb128.proofs.Laws.{GoodUnsigned, GoodSigned, unsigned-good, signed-good, Below, below}
 use Rattle.leb128.proofs.LastByte.{Digits, takes-unsigned, refuses-unsigned, takes-signed, refuses-signed}
 
 -- the bytes before the last allowed one
@@ -184,3 +184,18 @@ module _ (B : ℕ) (s : List ℕ) (at : ℕ) (wide : 0 < B) (bytes : Bytes s) wh
 
   pub signed-outside : {why : Refusal} {p : ℕ} → readSigned B s at ≡ SRefused why p → why ≡ Width → OutsideSigned B s p
   signed-outside {why} {p} e f = (at, signed-guilty (e ∙ ap (λ (w : Refusal). SRefused w p) f))
+
+  -- the place of any refusal is within the input, or its end
+  pub unsigned-place : {why : Refusal} {p : ℕ} → readUnsigned B s at ≡ URefused why p → p ≤ length s
+  unsigned-place {why} {p} e = go (subst (GoodUnsigned B (length s) at) e (unsigned-good B s at))
+    where
+      go : GoodUnsigned B (length s) at (URefused why p) → p ≤ length s
+      go (inl (w, is)) = omega arith
+      go (inr (w, is)) = omega (arith, unsigned-outside e w .1 .inside)
+
+  pub signed-place : {why : Refusal} {p : ℕ} → readSigned B s at ≡ SRefused why p → p ≤ length s
+  signed-place {why} {p} e = go (subst (GoodSigned B (length s) at) e (signed-good B s at))
+    where
+      go : GoodSigned B (length s) at (SRefused why p) → p ≤ length s
+      go (inl (w, is)) = omega arith
+      go (inr (w, is)) = omega (arith, signed-outside e w .1 .inside)

@@ -3,3 +3,4 @@ pub mod Writing
 pub mod RoundTrip
 pub mod Identifier
 pub mod Refusals
+pub mod Bounds
