@@ -63,8 +63,8 @@
  *     size_t room = (size_t)need.count;
  *
  *   The room may be 0: then NULL will do for the buffer, and what malloc(0) gives.
- *   The need of reloc_apr1_read may be far above any memory; compare it with what
- *   there is.
+ *   The need of reloc_apr1_read may be far above any memory, and a column for
+ *   reloc_relr_read 63 times as long as the table; compare it with what there is.
  */
 #ifndef RELOC_H
 #define RELOC_H
@@ -94,8 +94,8 @@ extern "C" {
  *
  *     if (reloc_version() != RELOC_VERSION) the header is not the library's
  */
-#define RELOC_VERSION 3000u
-#define RELOC_VERSION_TEXT "0.3.0"
+#define RELOC_VERSION 4000u
+#define RELOC_VERSION_TEXT "0.4.0"
 
 /* The version of the library, as RELOC_VERSION. */
 RELOC_NODISCARD
@@ -105,10 +105,10 @@ uint32_t reloc_version(void);
 #define RELOC_STACK_LIMIT 512
 
 /* The longest table that is read or applied, in bytes. */
-#define RELOC_INPUT_LIMIT 33554432
+#define RELOC_INPUT_LIMIT 134217728
 
 /* The longest list that is written, in records. */
-#define RELOC_LIST_LIMIT 1048576
+#define RELOC_LIST_LIMIT 4194304
 
 /*
  * What a call answers.

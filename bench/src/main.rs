@@ -3,11 +3,14 @@
 use bench::measure::{Measured, measured};
 use bench::rows;
 
-/// The numbers of records that a row is measured with; the last is that of the first table.
-const SIZES: [usize; 3] = [10_000, 100_000, 1_000_000];
+/// The numbers of records that a row is measured with.
+const SIZES: [usize; 4] = [10_000, 100_000, 1_000_000, 4_000_000];
+
+/// The size of the first table, by its place among them.
+const FIRST: usize = 2;
 
 /// A row's name, and what was measured at each size.
-type Result = (String, [Measured; 3]);
+type Result = (String, [Measured; 4]);
 
 /// Measures the rows whose names contain the argument, or all.
 fn main() {
@@ -25,10 +28,11 @@ fn main() {
 
 /// The first table: the library's time and its ratios to the other programs.
 fn print_ratios(results: &[Result]) {
-    println!("{} records: the library's best time, and its time over the others'.\n", SIZES[2]);
+    println!("{} records: the library's best time, and its time over the others'.\n", SIZES[FIRST]);
     println!("| row | ns per record | over Rust, best | median | over C, best | median |");
     println!("|---|--:|--:|--:|--:|--:|");
-    for (name, [.., Measured { ours, rust, c }]) in results {
+    for (name, sizes) in results {
+        let Measured { ours, rust, c } = &sizes[FIRST];
         print!("| {name} | {:.2} ", ours.best);
         print!("| {:.2} | {:.2} ", ours.best / rust.best, ours.median / rust.median);
         println!("| {:.2} | {:.2} |", ours.best / c.best, ours.median / c.median);
@@ -38,10 +42,11 @@ fn print_ratios(results: &[Result]) {
 /// The second table: the library's time per record at each size.
 fn print_growth(results: &[Result]) {
     println!("The library's best time in ns per record, by the number of records.\n");
-    println!("| row | {} | {} | {} | last over first |", SIZES[0], SIZES[1], SIZES[2]);
-    println!("|---|--:|--:|--:|--:|");
+    println!("| row | {} | last over first |", SIZES.map(|size| size.to_string()).join(" | "));
+    println!("|---|{}", "--:|".repeat(SIZES.len() + 1));
     for (name, sizes) in results {
-        let [few, more, most] = sizes.each_ref().map(|measured| measured.ours.best);
-        println!("| {name} | {few:.2} | {more:.2} | {most:.2} | {:.2} |", most / few);
+        let best = sizes.each_ref().map(|measured| measured.ours.best);
+        let cells = best.map(|time| format!("{time:.2}")).join(" | ");
+        println!("| {name} | {cells} | {:.2} |", best[SIZES.len() - 1] / best[0]);
     }
 }

@@ -8,7 +8,7 @@ use reference::corpus::{all, long};
 /// The Rust program answers and leaves every case as the reference does.
 #[test]
 fn rust_on_the_corpus() {
-    for named in all().iter().chain(&long::cases()) {
+    for named in all().into_iter().chain(long::cases()) {
         let (mut want, mut got) = (named.case.clone(), named.case.clone());
         assert_eq!(rust(&mut got), reference(&mut want), "{}", named.name);
         assert!(got == want, "{}: buffers differ", named.name);

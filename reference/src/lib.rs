@@ -18,11 +18,11 @@ pub use listing::list;
 pub use relleb::{relleb_read, relleb_write};
 pub use relr::{relr_apply, relr_read, relr_write};
 
-/// "Packed input is at most 33,554,432 bytes"
-pub const MOST_INPUT: usize = 33_554_432;
+/// "Raise packed input to 134,217,728 bytes", by document 02.
+pub const MOST_INPUT: usize = 134_217_728;
 
-/// "a list to write is at most 1,048,576 records"
-pub const MOST_LIST: usize = 1_048_576;
+/// "and lists to 4,194,304 records", by document 02.
+pub const MOST_LIST: usize = 4_194_304;
 
 /// "Each call returns number, place and count."
 #[derive(Clone, Copy, PartialEq, Eq, Debug)]

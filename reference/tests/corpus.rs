@@ -26,14 +26,16 @@ fn decoding_gives_back(cases: &[Named], most: usize) {
 #[test]
 fn decoding_gives_the_cases_back() {
     decoding_gives_back(&all(), 1_300_000);
-    decoding_gives_back(&long::cases(), 2_000);
+    for named in long::cases() {
+        decoding_gives_back(&[named], 64);
+    }
 }
 
 /// Each call refuses a long input or list with 2, and answers otherwise at the
 /// limit.
 #[test]
 fn every_call_has_its_limit() {
-    for row in pairs::counts(&long::cases()) {
+    for row in pairs::counts(long::cases()) {
         assert!(row[2] > 0);
         assert_eq!(row.iter().sum::<usize>(), 2 * row[2]);
     }
@@ -43,8 +45,8 @@ fn every_call_has_its_limit() {
 /// any case at all.
 #[test]
 fn every_allowed_pair_is_there() {
-    let by_hand = pairs::counts(&hand::cases());
-    let counts = pairs::counts(&all());
+    let by_hand = pairs::counts(hand::cases());
+    let counts = pairs::counts(all());
     for (code, call) in CALLS.iter().enumerate() {
         for number in 1..NUMBERS {
             let allowed = call.refusals.contains(&(number as u32)) && number != 2;

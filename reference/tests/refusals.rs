@@ -116,7 +116,7 @@ fn list_at_its_length() {
     let many = count as u64;
     let offsets: Vec<u64> = (0..many).map(|k| 4 * k).collect();
     assert_eq!(relr_write(4, &offsets, &mut []).number, 9);
-    assert_eq!(apr1_write(&offsets, &mut []), answer(9, 0, 4 + 1 + 1 + 3 + 1));
+    assert_eq!(apr1_write(&offsets, &mut []), answer(9, 0, 4 + 1 + 1 + 4 + 1));
     let zeros = vec![0; count];
     let apa1 = apa1_write(&zeros, &vec![0; count], &mut []);
     assert_eq!(apa1, answer(9, 0, 4 + 4 + 2 * many));
@@ -127,7 +127,7 @@ fn list_at_its_length() {
     let symbols = vec![u32::MAX; count];
     let mut table = vec![0; 30 * count + 10];
     let made = relleb_write(8, &wide, &types, &symbols, &addends, &mut table);
-    assert_eq!(made, answer(0, 0, 30 * many + 3));
+    assert_eq!(made, answer(0, 0, 30 * many + 4));
     let table = &table[..made.count as usize];
     assert!(table.len() <= MOST_INPUT);
     let read = relleb_read(8, table, &mut [], &mut [], &mut [], &mut []);

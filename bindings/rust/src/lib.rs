@@ -39,13 +39,13 @@ mod refusal;
 pub use refusal::{Kind, Refusal};
 
 /// The version of this wrapper: major × 1,000,000 + minor × 1,000 + patch.
-pub const VERSION: u32 = 3_000;
+pub const VERSION: u32 = 4_000;
 
 /// The longest table that is read or applied, in bytes.
-pub const INPUT_LIMIT: usize = 33_554_432;
+pub const INPUT_LIMIT: usize = 134_217_728;
 
 /// The longest list that is written, in records.
-pub const LIST_LIMIT: usize = 1_048_576;
+pub const LIST_LIMIT: usize = 4_194_304;
 
 /// The version of the library, as [`VERSION`].
 pub fn version() -> u32 {
@@ -57,7 +57,8 @@ pub fn version() -> u32 {
 /// room: it succeeds where it needs none, and is refused with [`Kind::Room`]
 /// where it needs some. Every other refusal is handed on.
 ///
-/// The need of [`apr1_read`] may be far above any memory.
+/// The need of [`apr1_read`] may be far above any memory, and a column for
+/// [`relr_read`] 63 times as long as the table.
 pub fn need(answer: Result<usize, Refusal>) -> Result<u64, Refusal> {
     match answer {
         Ok(count) => Ok(count as u64),

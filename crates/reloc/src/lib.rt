@@ -7,8 +7,8 @@ ghost use Rattle.apa1_table.specs.Contract.{Reads as Apa1Reads, Writes as Apa1W
 ghost use Rattle.relleb_table.specs.Contract.{Reads as RellebReads, Writes as RellebWrites};
 use answer::Answer;
 
-// The version as one number: 0.3.0.
-const VERSION: u32 = 3000;
+// The version as one number: 0.4.0.
+const VERSION: u32 = 4000;
 
 #[no_mangle]
 pub extern "C" fn reloc_version() -> u32

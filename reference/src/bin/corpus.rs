@@ -12,11 +12,10 @@ fn main() {
     check_answers(hand::all());
     check_answers(long::all());
     let root: PathBuf = std::env::args().nth(1).unwrap_or("..".into()).into();
-    let (cases, long) = (all(), long::cases());
-    write_cases(&root, &cases, "crates/vectors/stdin", "crates/vectors/stdout", "names.txt");
-    write_cases(&root, &long, &in_corpus("long"), &in_corpus("long.txt"), "long-names.txt");
-    let page = pairs::markdown(&cases, &hand::cases(), &long);
-    write(&root, "docs/CORPUS.md", page.as_bytes());
+    write_cases(&root, all(), "crates/vectors/stdin", "crates/vectors/stdout", "names.txt");
+    let long = long::cases();
+    write_cases(&root, long, &in_corpus("long"), &in_corpus("long.txt"), "long-names.txt");
+    write(&root, "docs/CORPUS.md", pairs::markdown().as_bytes());
     write(&root, "crates/cases/stdout", published::text().as_bytes());
 }
 
@@ -24,7 +23,13 @@ fn in_corpus(name: &str) -> String {
     format!("reference/corpus/{name}")
 }
 
-fn write_cases(root: &Path, cases: &[Named], file: &str, expected: &str, names: &str) {
+fn write_cases(
+    root: &Path,
+    cases: impl IntoIterator<Item = Named>,
+    file: &str,
+    expected: &str,
+    names: &str,
+) {
     let (mut bytes, mut lines, mut named) = (Vec::new(), String::new(), String::new());
     for Named { name, case } in cases {
         case.encode(&mut bytes);
@@ -34,7 +39,7 @@ fn write_cases(root: &Path, cases: &[Named], file: &str, expected: &str, names: 
     write(root, file, &bytes);
     write(root, expected, lines.as_bytes());
     write(root, &in_corpus(names), named.as_bytes());
-    println!("{file}: {} cases, {} bytes", cases.len(), bytes.len());
+    println!("{file}: {} cases, {} bytes", lines.lines().count(), bytes.len());
 }
 
 fn write(root: &Path, name: &str, contents: &[u8]) {
@@ -44,7 +49,7 @@ fn write(root: &Path, name: &str, contents: &[u8]) {
 }
 
 /// The answers worked by hand must be the answers of the calls.
-fn check_answers(hands: Vec<hand::Hand>) {
+fn check_answers(hands: impl IntoIterator<Item = hand::Hand>) {
     for hand in hands {
         let (answer, _) = hand.case.run();
         let got = (answer.number, answer.place, answer.count);

@@ -31,12 +31,12 @@ pub fn rooms(name: &str, need: usize, made: impl Fn(usize) -> Case) -> Vec<Hand>
 
 /// The hand-made cases as cases of the corpus.
 pub fn cases() -> Vec<Named> {
-    named(all())
+    all().into_iter().map(named).collect()
 }
 
-/// Cases without their answers.
-pub fn named(hands: Vec<Hand>) -> Vec<Named> {
-    hands.into_iter().map(|hand| Named { name: hand.name, case: hand.case }).collect()
+/// A case without its answer.
+pub fn named(hand: Hand) -> Named {
+    Named { name: hand.name, case: hand.case }
 }
 
 pub fn all() -> Vec<Hand> {

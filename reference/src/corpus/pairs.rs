@@ -1,10 +1,10 @@
 //! The Markdown table of calls and refusal numbers.
 
-use super::Named;
 use super::calls::{CALLS, Call, NUMBERS};
+use super::{Named, all, hand, long};
 
 /// How many cases of each call end in each number.
-pub fn counts(cases: &[Named]) -> Vec<[usize; NUMBERS]> {
+pub fn counts(cases: impl IntoIterator<Item = Named>) -> Vec<[usize; NUMBERS]> {
     let mut counts = vec![[0; NUMBERS]; CALLS.len()];
     for named in cases {
         let (answer, _) = named.case.run();
@@ -15,16 +15,16 @@ pub fn counts(cases: &[Named]) -> Vec<[usize; NUMBERS]> {
 
 /// The tables of all cases, of the hand-made and of the long ones, each under
 /// its heading.
-pub fn markdown(all: &[Named], by_hand: &[Named], long: &[Named]) -> String {
+pub fn markdown() -> String {
     let mut text = String::from("# The corpus\n\nCases per call and number of the answer. ");
     text += "A dot stands where document 01 allows the call no such refusal. The reference ";
     text += "prints this page; `reference/FORMAT.md` tells the files.\n";
-    for (heading, cases) in [
-        ("Hand-made, swept and generated cases", all),
-        ("Of these hand-made, each with its answer worked out", by_hand),
-        ("Long cases: at a limit of length, and one over it", long),
+    for (heading, counts) in [
+        ("Hand-made, swept and generated cases", counts(all())),
+        ("Of these hand-made, each with its answer worked out", counts(hand::cases())),
+        ("Long cases: at a limit of length, and one over it", counts(long::cases())),
     ] {
-        text += &format!("\n## {heading}\n\n{}", table(CALLS, &counts(cases)));
+        text += &format!("\n## {heading}\n\n{}", table(CALLS, &counts));
     }
     text
 }

@@ -11,7 +11,7 @@ use std::collections::HashSet;
 
 #[test]
 fn corpus() {
-    for named in all().iter().chain(&long::cases()) {
+    for named in all().into_iter().chain(long::cases()) {
         assert!(by_library(&named.case) == by_reference(&named.case), "{}", named.name);
     }
 }

@@ -1,6 +1,7 @@
 //! Tables and lists at their limits and one over, against the reference.
+//! limits.sh runs them one at a time, in 8 GiB of memory.
 
-use differential::{by_library, by_reference};
+use differential::{Run, by_library, by_reference};
 use reference::corpus::calls::{
     APA1_READ, APA1_WRITE, APR1_READ, APR1_WRITE, RELLEB_READ, RELLEB_WRITE, RELR_READ, RELR_WRITE,
 };
@@ -76,8 +77,8 @@ fn relr_applied() {
 
 #[test]
 fn apr1_tables() {
-    let record = [padded(Unsigned(32), 1, 4), padded(Unsigned(32), 300, 4)].concat();
-    let (table, pairs) = filled(b"APR1", Unsigned(32), &padded(Unsigned(32), 64, 3), &record);
+    let record = [padded(Unsigned(32), 1, 2), padded(Unsigned(32), 150, 1)].concat();
+    let (table, pairs) = filled(b"APR1", Unsigned(32), &padded(Unsigned(32), 64, 4), &record);
     longest(APR1_READ, 0, table, pairs + 1);
 }
 
@@ -90,17 +91,99 @@ fn apa1_tables() {
 
 #[test]
 fn relleb_tables() {
-    for (class, more) in [(4, [4, 1, 1, 2]), (8, [9, 4, 4, 4])] {
+    for class in [4, 8] {
+        // As long as a record can be.
         let bits = class * 8;
         let record = [
-            padded(Unsigned(bits), 16, more[0]),
-            padded(Signed(32), -1, more[1]),
-            padded(Signed(33), -4, more[2]),
-            padded(Signed(bits), -4, more[3]),
+            padded(Unsigned(bits), 16, 9),
+            padded(Signed(32), -1, 9),
+            padded(Signed(33), -4, 9),
+            padded(Signed(bits), -4, 9),
         ]
         .concat();
         let (table, records) = filled(&[], Unsigned(64), &[], &record);
         longest(RELLEB_READ, class, table, records);
+    }
+}
+
+/// A RELR table of the longest length: an address, then one bitmap again and
+/// again.
+fn bitmaps(class: u32, address: u64, bitmap: u64) -> Vec<u8> {
+    let more = INPUT_LIMIT / class as usize - 1;
+    [relr_bytes(class, &[address]), relr_bytes(class, &[bitmap]).repeat(more)].concat()
+}
+
+/// Empty bitmaps behind the largest offset take *where* far past the end of the
+/// space, and it does not wrap.
+#[test]
+fn relr_where() {
+    for class in [4, 8] {
+        let mut table = bitmaps(class, 0u64.wrapping_sub(class as u64), 1);
+        check(&Case::read_into(RELR_READ, class, &table, 2), Ok(1));
+        check(&Case::apply(class, &table, 1, &[0; 8]), refused(12, 0));
+        let last = INPUT_LIMIT - class as usize;
+        table[last] = 3;
+        check(&Case::read_into(RELR_READ, class, &table, 2), refused(7, last));
+        check(&Case::apply(class, &table, 1, &[0; 8]), refused(7, last));
+    }
+}
+
+/// The most offsets of a RELR table, all inside the space: in class 4 they take
+/// 31 parts of it in 32. The reference is not asked, since its list alone would
+/// take 8 GiB.
+#[test]
+fn relr_most_offsets() {
+    for class in [4, 8] {
+        let (words, window) = (INPUT_LIMIT / class as usize, 8 * class as usize - 1);
+        let case = Case::read_into(RELR_READ, class, &bitmaps(class, 0, u64::MAX), 4);
+        let got = by_library(&case);
+        let want = needs(1 + window * (words - 1));
+        assert_eq!(got.result, want, "class {class}");
+        assert!(got == Run { result: want, after: case, inside: true }, "class {class}");
+    }
+}
+
+/// As many additions, but for a few; the reference is not asked for the same
+/// reason.
+#[test]
+fn relr_most_additions() {
+    const BITMAPS: usize = 1_023;
+    for class in [4, 8] {
+        let (word, base) = (class as usize, 0xFEDC_BA98u64);
+        // From address 0 over the whole image, again and again.
+        let turn = relr_bytes(class, &[vec![0], vec![u64::MAX; BITMAPS]].concat());
+        let turns = INPUT_LIMIT / turn.len();
+        let places = 1 + BITMAPS * (8 * word - 1);
+        let case = Case::apply(class, &turn.repeat(turns), base, &vec![0; places * word]);
+        assert_eq!(case.input.len(), INPUT_LIMIT);
+        let got = by_library(&case);
+        let want = Ok(turns * places);
+        assert_eq!(got.result, want, "class {class}");
+        let sum = (base * turns as u64).to_le_bytes();
+        let after = Case { bytes: sum[..word].repeat(places), ..case };
+        assert!(got == Run { result: want, after, inside: true }, "class {class}");
+    }
+}
+
+/// The most offsets of an APR1 table: the count takes 57 bits.
+#[test]
+fn apr1_most_offsets() {
+    let times = u32::MAX as usize;
+    let record = [number(Unsigned(32), times as i128), number(Unsigned(32), 0)].concat();
+    let (table, pairs) = filled(b"APR1", Unsigned(32), &padded(Unsigned(32), 64, 4), &record);
+    let need = 1 + pairs * times;
+    assert_eq!(need.ilog2(), 56);
+    check(&Case::read_into(APR1_READ, 0, &table, 4), needs(need));
+}
+
+/// Tables of the shortest records: each difference is one byte.
+#[test]
+fn shortest_records() {
+    let (table, records) = filled(b"APA1", Signed(64), &[], &[0; 2]);
+    check(&Case::read_into(APA1_READ, 0, &table, 4), needs(records));
+    let (table, records) = filled(&[], Unsigned(64), &[], &[0; 3]);
+    for class in [4, 8] {
+        check(&Case::read_into(RELLEB_READ, class, &table, 4), needs(records));
     }
 }
 
@@ -158,7 +241,7 @@ fn apr1_lists() {
     let all: Vec<u64> = offsets(192).iter().map(|k| k + k / 192 % 2 * 64).collect();
     let list = Case::write(APR1_WRITE, 0, &all[..LIST_LIMIT], 0);
     let longer = Case::write(APR1_WRITE, 0, &all, 4);
-    written(list, APR1_READ, longer, 4 + 3 + 1 + 3 * (LIST_LIMIT - 1));
+    written(list, APR1_READ, longer, 4 + 4 + 1 + 3 * (LIST_LIMIT - 1));
 }
 
 /// Offsets and addends whose differences need 10 bytes each.
@@ -171,10 +254,9 @@ fn wide(count: usize) -> (Vec<u64>, Vec<i64>) {
 #[test]
 fn apa1_lists() {
     let (o, a) = wide(LIST_LIMIT + 1);
-    let list = Case::write(APA1_WRITE, 0, &o[1..], 0).with_addends(&a[1..]);
-    let longer = Case::write(APA1_WRITE, 0, &o, 4).with_addends(&a);
-    // The first difference is 0 twice; the count is signed.
-    written(list, APA1_READ, longer, 4 + 4 + 2 + 20 * (LIST_LIMIT - 1));
+    let list = |n: usize, room| Case::write(APA1_WRITE, 0, &o[..n], room).with_addends(&a[..n]);
+    let need = 4 + 4 + 20 * LIST_LIMIT;
+    written(list(LIST_LIMIT, 0), APA1_READ, list(LIST_LIMIT + 1, 4), need);
 }
 
 #[test]
@@ -192,7 +274,7 @@ fn relleb_lists() {
             let case = Case::write(RELLEB_WRITE, class, &o[..n], room).with_types(&t[..n]);
             case.with_symbols(&s[..n]).with_addends(&a[..n])
         };
-        let need = 3 + record * LIST_LIMIT;
+        let need = 4 + record * LIST_LIMIT;
         written(list(LIST_LIMIT, 0), RELLEB_READ, list(LIST_LIMIT + 1, 4), need);
     }
 }
