@@ -178,9 +178,9 @@ module _ (class : ℕ) where
           (rows-fine os ts ys us same (λ i h. (each-at (λ (n : ℕ). n < 2 ^ 32) ts 0 types i (omega (arith, same .types)), each-at (λ (n : ℕ). n < 2 ^ 32) ys 0 symbols i (omega (arith, same .symbols)))))
       columns k false e = record { place = omega arith; long = tt }
 
--- ---- what the passes hold on their way
--- a place and the longest number or word behind it
-pub place-fits : (p : ℕ) → p ≤ inputLimit → p + 10 < 2 ^ 64
+-- ---- what the passes hold on their way; of a writer's the theorems above speak too, since the first records of a list are a list
+-- a place and the longest number or word behind it: 32 bits hold it
+pub place-fits : (p : ℕ) → p ≤ inputLimit → p + 10 < 2 ^ 32
 place-fits p h = omega (arith, input-most)
 
 -- RELR: the offsets of some words of a table, wherever they stand and whatever stood before them
