@@ -7,6 +7,7 @@ mod apa1;
 mod apr1;
 pub mod baseline;
 mod leb;
+pub mod limits;
 pub mod measure;
 #[allow(unsafe_code)]
 mod plain;

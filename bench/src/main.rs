@@ -1,7 +1,7 @@
 //! Measures every row and prints the figures as Markdown.
 
 use bench::measure::{Measured, measured};
-use bench::rows;
+use bench::{limits, rows};
 
 /// The numbers of records that a row is measured with.
 const SIZES: [usize; 4] = [10_000, 100_000, 1_000_000, 4_000_000];
@@ -24,6 +24,8 @@ fn main() {
     print_ratios(&results);
     println!();
     print_growth(&results);
+    println!();
+    print_limits(&part);
 }
 
 /// The first table: the library's time and its ratios to the other programs.
@@ -48,5 +50,17 @@ fn print_growth(results: &[Result]) {
         let best = sizes.each_ref().map(|measured| measured.ours.best);
         let cells = best.map(|time| format!("{time:.2}")).join(" | ");
         println!("| {name} | {cells} | {:.2} |", best[SIZES.len() - 1] / best[0]);
+    }
+}
+
+/// The third table: the library's time at a quarter of each call's limit and at the limit.
+fn print_limits(part: &str) {
+    println!("The library's best time in seconds at a quarter of the limit, and at the limit.\n");
+    println!("| call | a quarter | the limit | limit over quarter |");
+    println!("|---|--:|--:|--:|");
+    for (row, limit) in limits::rows().into_iter().filter(|(row, _)| row.name.contains(part)) {
+        eprintln!("{}, at the limit", row.name);
+        let [few, most] = [limit / 4, limit].map(|size| limits::seconds(&row, size));
+        println!("| {} | {few:.4} | {most:.4} | {:.2} |", row.name, most / few);
     }
 }

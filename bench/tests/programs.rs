@@ -2,7 +2,7 @@
 
 use bench::measure::checked;
 use bench::programs::{reference, rust};
-use bench::rows;
+use bench::{limits, rows};
 use reference::corpus::{all, long};
 
 /// The Rust program answers and leaves every case as the reference does.
@@ -21,6 +21,16 @@ fn all_on_the_rows() {
     for row in rows::all() {
         for records in [1, 2, 1_000] {
             checked(&row, records);
+        }
+    }
+}
+
+/// And on tables and lists such as are measured at the limits.
+#[test]
+fn all_below_the_limits() {
+    for (row, _) in limits::rows() {
+        for size in [64, 1_000] {
+            checked(&row, size);
         }
     }
 }

@@ -15,6 +15,7 @@ pub mod long;
 pub mod pairs;
 pub mod rng;
 pub mod tables;
+pub mod widest;
 
 use case::Case;
 

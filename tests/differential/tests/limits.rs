@@ -7,6 +7,7 @@ use reference::corpus::calls::{
 };
 use reference::corpus::case::{Case, FILL};
 use reference::corpus::tables::{number, padded, relr_bytes};
+use reference::corpus::widest;
 use reference::leb::Kind::{self, Signed, Unsigned};
 use reloc::{INPUT_LIMIT, LIST_LIMIT, Refusal};
 
@@ -244,37 +245,16 @@ fn apr1_lists() {
     written(list, APR1_READ, longer, 4 + 4 + 1 + 3 * (LIST_LIMIT - 1));
 }
 
-/// Offsets and addends whose differences need 10 bytes each.
-fn wide(count: usize) -> (Vec<u64>, Vec<i64>) {
-    let offsets: Vec<u64> = (0..count).map(|k| if k % 2 == 0 { 1 << 63 } else { 0 }).collect();
-    let addends = offsets.iter().map(|k| *k as i64).collect();
-    (offsets, addends)
-}
-
 #[test]
 fn apa1_lists() {
-    let (o, a) = wide(LIST_LIMIT + 1);
-    let list = |n: usize, room| Case::write(APA1_WRITE, 0, &o[..n], room).with_addends(&a[..n]);
-    let need = 4 + 4 + 20 * LIST_LIMIT;
-    written(list(LIST_LIMIT, 0), APA1_READ, list(LIST_LIMIT + 1, 4), need);
+    let list = |records| widest::list(APA1_WRITE, 0, records);
+    written(list(LIST_LIMIT), APA1_READ, list(LIST_LIMIT + 1), 4 + 4 + 20 * LIST_LIMIT);
 }
 
 #[test]
 fn relleb_lists() {
-    // The longest record: 30 bytes in class 8, 20 in class 4.
     for (class, record) in [(4, 20), (8, 30)] {
-        let (mut o, mut a) = wide(LIST_LIMIT + 1);
-        if class == 4 {
-            o.iter_mut().for_each(|offset| *offset >>= 32);
-            a.iter_mut().for_each(|addend| *addend >>= 32);
-        }
-        let t: Vec<u32> = o.iter().map(|offset| (*offset != 0) as u32 * (1 << 31)).collect();
-        let s = vec![u32::MAX; LIST_LIMIT + 1];
-        let list = |n: usize, room| {
-            let case = Case::write(RELLEB_WRITE, class, &o[..n], room).with_types(&t[..n]);
-            case.with_symbols(&s[..n]).with_addends(&a[..n])
-        };
-        let need = 4 + record * LIST_LIMIT;
-        written(list(LIST_LIMIT, 0), RELLEB_READ, list(LIST_LIMIT + 1, 4), need);
+        let list = |records| widest::list(RELLEB_WRITE, class, records);
+        written(list(LIST_LIMIT), RELLEB_READ, list(LIST_LIMIT + 1), 4 + record * LIST_LIMIT);
     }
 }
