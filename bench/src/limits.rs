@@ -1,6 +1,6 @@
 //! Each call on tables and lists up to its limit.
 
-use crate::programs::library;
+use crate::programs::{Program, library, rust};
 use crate::rows::Row;
 use reference::corpus::calls::{
     APA1_READ, APA1_WRITE, APR1_READ, APR1_WRITE, RELLEB_READ, RELLEB_WRITE, RELR_READ, RELR_WRITE,
@@ -36,17 +36,19 @@ pub fn rows() -> Vec<(Row, usize)> {
     rows
 }
 
-/// The library's best time in seconds.
-pub fn seconds(row: &Row, size: usize) -> f64 {
+/// The best times in seconds, of the library and of the Rust program.
+pub fn seconds(row: &Row, size: usize) -> [f64; 2] {
     let mut case = (row.case)(size);
-    let mut best = f64::MAX;
-    for _ in 0..ROUNDS {
-        let begin = Instant::now();
-        let answer = black_box(library)(black_box(&mut case));
-        best = best.min(begin.elapsed().as_secs_f64());
-        assert!(answer.is_ok(), "{}: {answer:?}", row.name);
-    }
-    best
+    [library, rust].map(|program: Program| {
+        let times = (0..ROUNDS).map(|_| {
+            let begin = Instant::now();
+            let answer = black_box(program)(black_box(&mut case));
+            let time = begin.elapsed();
+            assert!(answer.is_ok(), "{}: {answer:?}", row.name);
+            time
+        });
+        times.min().unwrap().as_secs_f64()
+    })
 }
 
 fn table(call: &str, class: u32, case: impl Fn(usize) -> Case + 'static) -> (Row, usize) {

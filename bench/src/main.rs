@@ -53,14 +53,18 @@ fn print_growth(results: &[Result]) {
     }
 }
 
-/// The third table: the library's time at a quarter of each call's limit and at the limit.
+/// The third table: the library's time at a quarter of each call's limit and at the limit, and by
+/// how much it grows, as the Rust program's does.
 fn print_limits(part: &str) {
-    println!("The library's best time in seconds at a quarter of the limit, and at the limit.\n");
-    println!("| call | a quarter | the limit | limit over quarter |");
-    println!("|---|--:|--:|--:|");
+    println!("The library's best time in seconds at a quarter of the limit and at the limit, and");
+    println!("how often the one is in the other, for the library and for Rust.\n");
+    println!("| call | a quarter | the limit | times | Rust, times |");
+    println!("|---|--:|--:|--:|--:|");
     for (row, limit) in limits::rows().into_iter().filter(|(row, _)| row.name.contains(part)) {
         eprintln!("{}, at the limit", row.name);
         let [few, most] = [limit / 4, limit].map(|size| limits::seconds(&row, size));
-        println!("| {} | {few:.4} | {most:.4} | {:.2} |", row.name, most / few);
+        let ([ours, rust], [at_limit, rust_at_limit]) = (few, most);
+        print!("| {} | {ours:.4} | {at_limit:.4} ", row.name);
+        println!("| {:.2} | {:.2} |", at_limit / ours, rust_at_limit / rust);
     }
 }
