@@ -1,4 +1,4 @@
--- Document 01's starred cases: one table, and one claim, that each of its rows holds.
+-- Document 01's starred cases and its case N, and document 02's §1: one table, and one claim, that each of its rows holds.
 -- Assumes nothing.
 use Prim.Native.Nat.{ℕ}
 use mathlib.Core.Path.{_≡_, refl}
@@ -11,12 +11,13 @@ use Rattle.word.specs.declared.Named.the-variants.{Is}
 use Rattle.word.specs.Class.{bytesOf}
 use Rattle.word.specs.Word.{valueOf, bytesIn, wordAt, withWord, firstWords, wordsOf, bytesOfWords}
 use Rattle.relr_table.specs.Words as relr
-use Rattle.relr_table.specs.Table.{parse, decode, checked, build, encode, leading, contained, targets, added, patched}
+use Rattle.relr_table.specs.Table.{parse, decode, checked, build, encode, leading, contained, targets, indexes, added, patched}
 use Rattle.relr_table.specs.Contract.{changed, imageAfter}
 use Rattle.leb128.specs.Number.{raw, readUnsigned, signed, readSigned, short, shortBy, shortUnsigned, shortSigned}
 use Rattle.leb128.specs.declared.Unsigned.the-variants.{Value as UValue}
 use Rattle.leb128.specs.declared.Signed.the-variants.{Value as SValue}
-use Rattle.answer.specs.Outcome.{accepted, inputLimit, listLimit, before, after}
+use Rattle.answer.specs.declared.Refusal.the-variants.{Outside}
+use Rattle.answer.specs.Outcome.{Outcome, accepted, refused, inputLimit, listLimit, before, after}
 use Rattle.records.specs.Columns.{Each}
 use Rattle.records.specs.Identifier.{startsWith}
 use Rattle.records.specs.Reading.{stepThen, records, counted}
@@ -26,28 +27,37 @@ use Rattle.apr1_table.specs.Table as apr1
 use Rattle.apa1_table.specs.Table as apa1
 use Rattle.relleb_table.specs.Table as relleb
 
--- a row: what is written and what it stands for, to be read and to be written; or an image before and after a table is applied
+-- a row: what is written and what it stands for, to be read and to be written; or a table that is applied: its words, the base, the start, the
+-- image before, the outcome and the image after
 pub data Case : Type 0 where
   unsignedNumber : ℕ → List ℕ → ℕ → Case
   signedNumber : ℕ → List ℕ → ℤ → Case
   relrTable : Class → List ℕ → List ℕ → Case
-  relrApplied : Class → List ℕ → ℕ → List ℕ → List ℕ → Case
+  relrApplied : Class → List ℕ → ℕ → ℕ → List ℕ → Outcome (List ℕ) → List ℕ → Case
   apr1Table : List ℕ → List ℕ → Case
   apa1Table : List ℕ → List apa1.Row → Case
   rellebTable : ℕ → List ℕ → List relleb.Row → Case
 
 -- what a row says: the bytes, at a width, read as the value, and are its shortest form; a table's bytes or words decode to the list, and are
--- its table; a table of these words and a base make of the one image the other
+-- its table; a table that is applied has that outcome, and makes of the one image the other
 pub Holds : Case → Type 0
 Holds (unsignedNumber width bytes v) = (readUnsigned width bytes 0 ≡ UValue v (length bytes)) × (shortUnsigned v ≡ bytes)
 Holds (signedNumber width bytes z) = (readSigned width bytes 0 ≡ SValue z (length bytes)) × (shortSigned z ≡ bytes)
 Holds (relrTable k offsets words) = (decode k (bytesOfWords (bytesOf k) words) ≡ accepted offsets) × (encode k offsets ≡ accepted (bytesOfWords (bytesOf k) words))
-Holds (relrApplied k words base old new) = imageAfter (Is k) (bytesOfWords (bytesOf k) words) base old ≡ new
+Holds (relrApplied k words base start old o new) =
+    (targets k (bytesOfWords (bytesOf k) words) base start (length old) ≡ o) × (imageAfter (Is k) (bytesOfWords (bytesOf k) words) base start old ≡ new)
 Holds (apr1Table bytes l) = (apr1.decode bytes ≡ accepted l) × (apr1.encode l ≡ accepted bytes)
 Holds (apa1Table bytes l) = (apa1.decode bytes ≡ accepted l) × (apa1.encode l ≡ accepted bytes)
 Holds (rellebTable width bytes l) = (relleb.decode width bytes ≡ accepted l) × (relleb.encode width l ≡ accepted bytes)
 
--- the starred cases
+-- images of eight bytes
+abbrev full : List ℕ
+full = 0xFF ∷ 0xFF ∷ 0xFF ∷ 0xFF ∷ 0xFF ∷ 0xFF ∷ 0xFF ∷ 0xFF ∷ []
+
+abbrev zeros : List ℕ
+zeros = 0 ∷ 0 ∷ 0 ∷ 0 ∷ 0 ∷ 0 ∷ 0 ∷ 0 ∷ []
+
+-- the cases
 pub worked : List Case
 worked =
     -- A
@@ -66,7 +76,20 @@ worked =
     -- G
     ∷ relrTable Eight (0x10 ∷ 0x14 ∷ 0x18 ∷ 0x20 ∷ []) (0x10 ∷ 0x14 ∷ 0x18 ∷ 0x3 ∷ [])
     -- J
-    ∷ relrApplied Eight (0 ∷ []) 1 (0xFF ∷ 0xFF ∷ 0xFF ∷ 0xFF ∷ 0xFF ∷ 0xFF ∷ 0xFF ∷ 0xFF ∷ []) (0 ∷ 0 ∷ 0 ∷ 0 ∷ 0 ∷ 0 ∷ 0 ∷ 0 ∷ [])
+    ∷ relrApplied Eight (0 ∷ []) 1 0 full (accepted (0 ∷ [])) zeros
+    -- N, both
+    ∷ relrApplied Eight (0 ∷ []) 2 0 zeros (accepted (0 ∷ [])) (2 ∷ 0 ∷ 0 ∷ 0 ∷ 0 ∷ 0 ∷ 0 ∷ 0 ∷ [])
+    ∷ relrApplied Eight (2 ∷ []) 2 0 zeros (refused Outside 0) zeros
+    -- §1: a module linked at 0x1000; an offset just below the start
+    ∷ relrApplied Eight (0x1000 ∷ []) 1 0x1000 full (accepted (0x1000 ∷ [])) zeros
+    ∷ relrApplied Eight (0x1000 ∷ 0xFFE ∷ []) 1 0x1000 full (refused Outside 1) full
+    -- the last word of the image, and one that ends two bytes beyond
+    ∷ relrApplied Four (0x1000 ∷ 0x3 ∷ []) 1 0x1000 full (accepted (0x1000 ∷ 0x1004 ∷ [])) zeros
+    ∷ relrApplied Four (0x1006 ∷ []) 1 0x1000 full (refused Outside 0) full
+    -- a start near 2^64; one past the space of class 4, and there no offsets
+    ∷ relrApplied Eight (0xFFFFFFFFFFFFFFF8 ∷ []) 1 0xFFFFFFFFFFFFFFF8 full (accepted (0xFFFFFFFFFFFFFFF8 ∷ [])) zeros
+    ∷ relrApplied Four (0 ∷ []) 1 0xFFFFFFFFFFFFFFFF full (refused Outside 0) full
+    ∷ relrApplied Four [] 1 0xFFFFFFFFFFFFFFFF full (accepted []) full
     -- H
     ∷ apr1Table (0x41 ∷ 0x50 ∷ 0x52 ∷ 0x31 ∷ 0x02 ∷ 0x80 ∷ 0x20 ∷ 0x02 ∷ 0x04 ∷ 0x01 ∷ 0x08 ∷ []) (0x1000 ∷ 0x1004 ∷ 0x1008 ∷ 0x1010 ∷ [])
     -- I
@@ -80,7 +103,7 @@ pub claim : Each Holds worked
 unfolding Holds worked inputLimit listLimit readUnsigned readSigned raw signed short shortBy before after
     valueOf bytesIn wordAt withWord firstWords wordsOf bytesOfWords
     relr.marked relr.fit relr.anchored relr.read relr.falls relr.bit relr.word relr.first relr.write relr.table
-    parse decode checked build encode leading contained targets added patched changed imageAfter
+    parse decode checked build encode leading contained targets indexes added patched changed imageAfter
     startsWith stepThen records counted putThen puts residue signedIn same
     apr1.run apr1.expand apr1.secondOf apr1.firstOf apr1.stepAt apr1.joined apr1.withFirst apr1.withCount apr1.parse apr1.decode apr1.pairThen
     apr1.pairsFrom apr1.onePair apr1.pairBytes apr1.headOf apr1.tableOf apr1.checked apr1.build apr1.encode
@@ -88,4 +111,4 @@ unfolding Holds worked inputLimit listLimit readUnsigned readSigned raw signed s
     relleb.withAddend relleb.withSymbol relleb.withType relleb.withOffset relleb.stepAt relleb.parse relleb.decode relleb.fieldOf relleb.symbolBytes
     relleb.typeBytes relleb.fieldBytes relleb.entryBytes relleb.putOf relleb.build relleb.encode
 claim =
-    ((refl, refl), ((refl, refl), ((refl, refl), ((refl, refl), ((refl, refl), ((refl, refl), ((refl, refl), ((refl, refl), (refl, ((refl, refl), ((refl, refl), ((refl, refl), tt))))))))))))
+    ((refl, refl), ((refl, refl), ((refl, refl), ((refl, refl), ((refl, refl), ((refl, refl), ((refl, refl), ((refl, refl), ((refl, refl), ((refl, refl), ((refl, refl), ((refl, refl), ((refl, refl), ((refl, refl), ((refl, refl), ((refl, refl), ((refl, refl), ((refl, refl), ((refl, refl), ((refl, refl), ((refl, refl), tt)))))))))))))))))))))

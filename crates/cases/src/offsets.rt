@@ -32,15 +32,17 @@ fn read(class: u32, table: &[u8]) {
 }
 
 // Applies a table to an image of eight bytes.
-fn apply(class: u32, table: &[u8], base: u64) {
+fn apply(class: u32, table: &[u8], base: u64, start: u64) {
     let mut image = [255u8; 8];
     text::put(b"relr apply class ");
     text::number(class as u64);
     text::put(b" base ");
     text::number(base);
+    text::put(b" start ");
+    text::number(start);
     text::put(b":");
     text::bytes(table, table.len());
-    answer_of(relr::apply(class, table, base, &mut image));
+    answer_of(relr::apply(class, table, base, start, &mut image));
     text::put(b" image");
     text::bytes(&image, 8);
     text::put(b"\n");
@@ -85,14 +87,27 @@ fn reads() {
 }
 
 fn applies() {
-    apply(8, b"\x00\x00\x00\x00\x00\x00\x00\x00", 1);
-    apply(8, b"\x02\x00\x00\x00\x00\x00\x00\x00", 1);
-    apply(4, b"\x00\x00\x00\x00\x03\x00\x00\x00", 2);
-    apply(4, b"\x00\x00\x00\x00\x02\x00\x00\x00", 1);
-    apply(4, b"\x00\x00\x00\x00", 4294967296);
-    apply(4, b"\x06\x00\x00\x00\xfe\xff\xff\xff", 1);
-    apply(8, b"", 18446744073709551615);
-    apply(0, b"", 0);
+    apply(8, b"\x00\x00\x00\x00\x00\x00\x00\x00", 1, 0);
+    apply(8, b"\x02\x00\x00\x00\x00\x00\x00\x00", 1, 0);
+    apply(4, b"\x00\x00\x00\x00\x03\x00\x00\x00", 2, 0);
+    apply(4, b"\x00\x00\x00\x00\x02\x00\x00\x00", 1, 0);
+    apply(4, b"\x00\x00\x00\x00", 4294967296, 0);
+    apply(4, b"\x06\x00\x00\x00\xfe\xff\xff\xff", 1, 0);
+    apply(8, b"", 18446744073709551615, 0);
+    apply(0, b"", 0, 0);
+    apply(8, b"\x00\x10\x00\x00\x00\x00\x00\x00", 1, 4096);
+    apply(4, b"\x00\x10\x00\x00\x03\x00\x00\x00", 2, 4096);
+    apply(8, b"\xfe\x0f\x00\x00\x00\x00\x00\x00", 1, 4096);
+    apply(4, b"\x04\x10\x00\x00", 1, 4096);
+    apply(4, b"\x06\x10\x00\x00", 1, 4096);
+    apply(
+        8,
+        b"\xf8\xff\xff\xff\xff\xff\xff\xff",
+        1,
+        18446744073709551608,
+    );
+    apply(4, b"\x00\x00\x00\x00", 1, 18446744073709551615);
+    apply(8, b"", 1, 18446744073709551615);
 }
 
 fn writes() {

@@ -118,12 +118,12 @@ module _ (class : ℕ) where
       (answer-in list-fits (omega (arith, bytes-readable, input-most)) (length old) (relr-contract.encoding class l)
       (bounded-class (λ m. listLimit) (inNamed relrBytes) (λ k. relr.encode k l) (λ k. relr-bounds.encode-bounded k l) (classOf class)) (w .gives .answer))
 
-  pub relr-apply : (s : List ℕ) (base : ℕ) (old : List ℕ) {new : List ℕ} {r : Answer} → relr-contract.Applies class s base old r new
+  pub relr-apply : (s : List ℕ) (base start : ℕ) (old : List ℕ) {new : List ℕ} {r : Answer} → relr-contract.Applies class s base start old r new
       → Within (inNamed relrOffsets (classOf class)) (inNamed relrOffsets (classOf class)) r
   unfolding relr-contract.applying
-  relr-apply s base old a =
-      answer-of offsets-fit offsets-fit (relr-contract.applying class s base (length old))
-      (bounded-class (inNamed relrOffsets) (inNamed relrOffsets) (λ k. relr.targets k s base (length old)) (λ k. relr-bounds.targets-bounded k s base (length old)) (classOf class)) (a .answer)
+  relr-apply s base start old a =
+      answer-of offsets-fit offsets-fit (relr-contract.applying class s base start (length old))
+      (bounded-class (inNamed relrOffsets) (inNamed relrOffsets) (λ k. relr.targets k s base start (length old)) (λ k. relr-bounds.targets-bounded k s base start (length old)) (classOf class)) (a .answer)
 
 -- ---- APR1
 pub apr1-read : (s column : List ℕ) {column′ : List ℕ} {r : Answer} → Bytes s → apr1-contract.Reads s column r column′ → Within inputLimit apr1Offsets r

@@ -11,7 +11,7 @@ use mathlib.Core.List.{List, map, map-id}
 use mathlib.Core.Bool.{Bool, true, false}
 use mathlib.Core.Logic.{inl, inr}
 use mathlib.Core.Path.{_≡_, refl, sym, ap, _∙_}
-use Prim.Native.Nat.{ℕ, _≤_}
+use Prim.Native.Nat.{ℕ, _+_, _≤_}
 use native.Mathlib.Decide.{decLe, ℕ-discrete}
 use native.Mathlib.Omega.{arith}
 use lib.IntN.{ℤ}
@@ -120,20 +120,20 @@ module _ (class : ℕ) (l old column : List ℕ) {new column′ : List ℕ} {w r
   relr-back f g d h =
       returned (relr-contract.decoding class (take (w .count) new)) column (wrote f (g .gives)) (rw (front f (g .gives)) (relr-decodes class l (f .is))) d h
 
--- a byte that lies in no word at an offset of the table is as it was
-module _ (class : ℕ) (s : List ℕ) (base : ℕ) (old : List ℕ) {new : List ℕ} {r : Answer} where
-  pub relr-elsewhere : relr-contract.Applies class s base old r new → (k : Class) → classOf class ≡ Is k → (l : List ℕ) → relr.decode k s ≡ accepted l
-      → (i : ℕ) → relr.Apart (bytesOf k) i l → getD new i 0 ≡ getD old i 0
+-- the byte at index i, whose address is the start plus i, is as it was if it lies in no word at an offset of the table
+module _ (class : ℕ) (s : List ℕ) (base start : ℕ) (old : List ℕ) {new : List ℕ} {r : Answer} where
+  pub relr-elsewhere : relr-contract.Applies class s base start old r new → (k : Class) → classOf class ≡ Is k → (l : List ℕ) → relr.decode k s ≡ accepted l
+      → (i : ℕ) → relr.Apart (bytesOf k) (start + i) l → getD new i 0 ≡ getD old i 0
   unfolding relr-contract.imageAfter relr-contract.changed
   relr-elsewhere a k n l d i p =
-      let e : new ≡ relr-contract.changed (bytesOf k) base (relr.targets k s base (length old)) old = a .image ∙ rw n in
-      ap (λ (m : List ℕ). getD m i 0) e ∙ go (relr.targets k s base (length old)) refl
+      let e : new ≡ relr-contract.changed (bytesOf k) base start (relr.targets k s base start (length old)) old = a .image ∙ rw n in
+      ap (λ (m : List ℕ). getD m i 0) e ∙ go (relr.targets k s base start (length old)) refl
     where
-      go : (o : Outcome (List ℕ)) → relr.targets k s base (length old) ≡ o → getD (relr-contract.changed (bytesOf k) base o old) i 0 ≡ getD old i 0
+      go : (o : Outcome (List ℕ)) → relr.targets k s base start (length old) ≡ o → getD (relr-contract.changed (bytesOf k) base start o old) i 0 ≡ getD old i 0
       go (accepted m) e =
-          let (f, g) = targets-accepted k s base (length old) e in
+          let (f, g) = targets-accepted k s base start (length old) e in
           let q : l ≡ m = (let z : accepted l ≡ accepted m = sym d ∙ f in cc) in
-          patched-apart (bytesOf k) base i m old g (rw q at p)
+          patched-apart (bytesOf k) base start i m old g (rw q at p)
       go (refused y q) e = refl
 
 -- ---- APR1

@@ -11,10 +11,10 @@ use lib.Dec.{eqb, leb}
 use lib.IntN.{ℤ, negsuc}
 use lib.ListN.{length}
 use Rattle.answer.specs.declared.Answer.{Answer}
-use Rattle.answer.specs.declared.Refusal.{Refusal}
-use Rattle.answer.specs.declared.Refusal.the-variants.{Class, Limit, Identifier, Missing, Width, Order, Space, Trailing, Room, Odd, Columns, Outside, Empty, Addend, Base}
+use Rattle.answer.specs.declared.Refusal.the-variants.{Width, Columns}
 use Rattle.answer.specs.Bytes.{Bytes}
-use Rattle.answer.specs.Outcome.{Outcome, accepted, refused, numberOf, success, refusal, noRoom, answerIn}
+use Rattle.answer.specs.Outcome.{Outcome, accepted, refused, success, refusal, noRoom, answerIn}
+use Rattle.answer.specs.Outcome.Laws.{number-one}
 use Rattle.leb128.proofs.Laws.{signed-value}
 use Rattle.word.specs.declared.Class as class
 use Rattle.word.specs.declared.Named.{Named}
@@ -33,25 +33,7 @@ use Rattle.relleb_table.specs.Contract.Laws as relleb-laws
 use Rattle.relleb_table.specs.GuiltyByte as relleb-byte
 use Rattle.relleb_table.proofs.GuiltyByte as relleb-guilty
 
--- 5 is the number of one refusal alone
-five : (why : Refusal) → numberOf why ≡ 5 → why ≡ Width
-five Class e = absurd (omega arith)
-five Limit e = absurd (omega arith)
-five Identifier e = absurd (omega arith)
-five Missing e = absurd (omega arith)
-five Width e = refl
-five Order e = absurd (omega arith)
-five Space e = absurd (omega arith)
-five Trailing e = absurd (omega arith)
-five Room e = absurd (omega arith)
-five Odd e = absurd (omega arith)
-five Columns e = absurd (omega arith)
-five Outside e = absurd (omega arith)
-five Empty e = absurd (omega arith)
-five Addend e = absurd (omega arith)
-five Base e = absurd (omega arith)
-
--- so an answer 5 is that refusal, at the place that it says
+-- an answer 5 is that refusal, at the place that it says
 answered : {A : Type 0} (room : ℕ) (o : Outcome (List A)) {r : Answer} → r ≡ answerIn room o → r .number ≡ 5 → o ≡ refused Width (r .place)
 unfolding answerIn success noRoom refusal
 answered room (accepted l) {r} e n = go (leb (length l) room) e
@@ -60,7 +42,7 @@ answered room (accepted l) {r} e n = go (leb (length l) room) e
     go true f = let z : _≡_ {A = ℕ} 0 5 = sym (ap (λ (a : Answer). a .number) f) ∙ n in absurd (omega arith)
     go false f = let z : _≡_ {A = ℕ} 9 5 = sym (ap (λ (a : Answer). a .number) f) ∙ n in absurd (omega arith)
 answered room (refused why p) {r} e n =
-    let w : why ≡ Width = five why (sym (ap (λ (a : Answer). a .number) e) ∙ n) in
+    let w : why ≡ Width = number-one why Width (sym (ap (λ (a : Answer). a .number) e) ∙ n) in
     let q : p ≡ r .place = sym (ap (λ (a : Answer). a .place) e) in
     rw (w, q)
 

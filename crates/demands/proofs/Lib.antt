@@ -1,3 +1,4 @@
 pub mod Demands
 pub mod GuiltyByte
 pub mod BiggerModules
+pub mod ImageStart

@@ -3,10 +3,14 @@
 use mathlib.Core.List.{List}
 use mathlib.Core.Logic.{_⊎_}
 use mathlib.Core.Path.{_≡_}
-use Prim.Native.Nat.{ℕ}
-use lib.ListN.{length, take}
+use Prim.Native.Nat.{ℕ, _+_, _-_, _<_}
+use lib.ListN.{length, take, getD}
 use Rattle.answer.specs.declared.Answer.{Answer}
-use Rattle.answer.specs.Outcome.{success}
+use Rattle.answer.specs.Outcome.{accepted, success}
+use Rattle.word.specs.declared.Class.{Class}
+use Rattle.word.specs.declared.Named.the-variants.{Is}
+use Rattle.word.specs.Class.{bytesOf, classOf}
+use Rattle.relr_table.specs.Table.{Inside, All, decode, indexes, patched}
 
 -- a column begins with a list
 abbrev pub Begins : {A : Type 0} → List A → List A → Type 0
@@ -20,3 +24,31 @@ pub record Returned (w r : Answer) (bytes n : ℕ) : Type 0 where
 -- the number of a success, or of one of the refusals 2, 9 and 11
 abbrev pub Only : ℕ → Type 0
 Only n = (n ≡ 0) ⊎ ((n ≡ 2) ⊎ ((n ≡ 9) ⊎ (n ≡ 11)))
+
+-- ---- applying
+
+-- an apply that adds the base at every offset of its table: the table decodes to a list, each offset of which has its word inside the image, and
+-- the base is added, in order, to the word at each offset less the start
+pub record Applied (class : ℕ) (s : List ℕ) (base start : ℕ) (old : List ℕ) (r : Answer) (new : List ℕ) : Type 0 where
+  pub k : Class
+  pub named : classOf class ≡ Is k
+  pub list : List ℕ
+  pub decodes : decode k s ≡ accepted list
+  pub each : All (Inside (bytesOf k) start (length old)) list
+  pub answer : r ≡ success (length list)
+  pub image : new ≡ patched (bytesOf k) base (indexes start list) old
+
+-- the offset at index i of a list is the first that does not lie inside an image: it is below the start, or its word ends beyond the image
+pub record First (c start size : ℕ) (l : List ℕ) (i : ℕ) : Type 0 where
+  pub listed : i < length l
+  pub outside : (getD l i 0 < start) ⊎ (size < getD l i 0 - start + c)
+  pub before : (j : ℕ) → j < i → Inside c start size (getD l j 0)
+
+-- an apply that is refused for such an offset
+pub record Outside (class : ℕ) (s : List ℕ) (start : ℕ) (old : List ℕ) (r : Answer) (new : List ℕ) : Type 0 where
+  pub k : Class
+  pub named : classOf class ≡ Is k
+  pub list : List ℕ
+  pub decodes : decode k s ≡ accepted list
+  pub first : First (bytesOf k) start (length old) list (r .place)
+  pub image : new ≡ old

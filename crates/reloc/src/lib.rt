@@ -7,8 +7,8 @@ ghost use Rattle.apa1_table.specs.Contract.{Reads as Apa1Reads, Writes as Apa1W
 ghost use Rattle.relleb_table.specs.Contract.{Reads as RellebReads, Writes as RellebWrites};
 use answer::Answer;
 
-// The version as one number: 0.4.0.
-const VERSION: u32 = 4000;
+// The version as one number: 0.5.0.
+const VERSION: u32 = 5000;
 
 #[no_mangle]
 pub extern "C" fn reloc_version() -> u32
@@ -32,10 +32,16 @@ pub extern "C" fn reloc_relr_write(class: u32, offsets: &[u64], table: &mut [u8]
 }
 
 #[no_mangle]
-pub extern "C" fn reloc_relr_apply(class: u32, table: &[u8], base: u64, image: &mut [u8]) -> Answer
-    ensures { λ r. ⌜ RelrApplies class (now (table .entry)) base (now (image .entry)) r (now (image .exit)) ⌝ }
+pub extern "C" fn reloc_relr_apply(
+    class: u32,
+    table: &[u8],
+    base: u64,
+    start: u64,
+    image: &mut [u8],
+) -> Answer
+    ensures { λ r. ⌜ RelrApplies class (now (table .entry)) base start (now (image .entry)) r (now (image .exit)) ⌝ }
 {
-    relr::apply(class, table, base, image)
+    relr::apply(class, table, base, start, image)
 }
 
 #[no_mangle]

@@ -27,13 +27,13 @@ pub fn write(class: u32, offsets: &[u64], table: &mut [u8]) -> Answer
     relr_write::write_class(k, offsets, table)
 }
 
-// Adds the base to the image's word at each offset of a table.
-pub fn apply(class: u32, table: &[u8], base: u64, image: &mut [u8]) -> Answer
-    ensures { λ r. ⌜ Applies class (now (table .entry)) base (now (image .entry)) r (now (image .exit)) ⌝ }
+// Adds the base to the word at each offset of a table, in an image whose first byte has the address `start`.
+pub fn apply(class: u32, table: &[u8], base: u64, start: u64, image: &mut [u8]) -> Answer
+    ensures { λ r. ⌜ Applies class (now (table .entry)) base start (now (image .entry)) r (now (image .exit)) ⌝ }
 {
     let named = Class::named(class);
     let Named::Is(k) = named else {
         return answer::refuse(Refusal::Class, 0);
     };
-    relr_apply::apply_class(k, table, base, image)
+    relr_apply::apply_class(k, table, base, start, image)
 }

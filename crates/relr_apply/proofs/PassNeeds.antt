@@ -6,7 +6,7 @@ use mathlib.Core.Path.{_≡_, refl, sym, ap, subst, _∙_}
 use Prim.Native.Nat.{ℕ, _+_, _-_, _/_, _%_, _^_, _≤_, _<_}
 use native.Mathlib.Omega.{arith}
 use native.Mathlib.Decide.{decLe}
-use lib.Dec.{ltb}
+use lib.Dec.{leb, ltb}
 use lib.ListN.{length}
 use mir.Syntax.{w64}
 use mir.Val.{Fits}
@@ -18,26 +18,25 @@ use Rattle.answer.specs.declared.Answer.{Answer}
 use Rattle.answer.specs.declared.Found.{Found}
 use Rattle.answer.specs.declared.Found.the-variants.{Count}
 use Rattle.answer.specs.declared.Found.the-variants as found
-use Rattle.answer.specs.Outcome.{accepted, refused, foundOf, success, refusal}
+use Rattle.answer.specs.Outcome.{Outcome, accepted, refused, foundOf, success, refusal}
 use Rattle.answer.specs.Outcome.Laws.{accepted-refused, Counted, found-count, not-found, answer-all, answer-none}
 use Rattle.word.specs.declared.Class.{Class}
 use Rattle.word.specs.declared.Class.the-variants.{Four, Eight}
 use Rattle.word.specs.Class.{bytesOf, bitsOf}
 use Rattle.word.specs.Class.Laws.{bytes-least}
 use Rattle.word.specs.Word.{wordAt, withWord}
-use Rattle.relr_table.specs.Words.{fit}
-use Rattle.relr_table.specs.Table.{decode, ends, contained, targets, added, patched, above}
+use Rattle.relr_table.specs.Table.{spaceOf, decode, inside, Inside, All, contained, targets, indexes, added, patched, above}
 use Rattle.relr_table.specs.Contract.{changed, AppliesIn}
 use Rattle.relr_table.specs.Place.{Place, Nowhere}
 use Rattle.relr_table.specs.declared.place.Opened.{Opened}
 use Rattle.relr_table.specs.declared.place.Opened.the-variants.{Address, Marks, Refused}
-use Rattle.relr_table.specs.Inner.{marksOf, OpensAt, below}
-use Rattle.relr_apply.specs.Inner.{Patchable, Targeted, Patched}
-use Rattle.relr_table.proofs.Leading.{contained-same}
+use Rattle.relr_table.specs.Inner.{marksOf, OpensAt, between}
+use Rattle.relr_apply.specs.Inner.{Patchable, Targeted, Patched, End}
+use Rattle.relr_table.proofs.Marked.{all-left, all-right}
 use Rattle.relr_table.proofs.PlaceNeeds.{one-mark}
-use Rattle.relr_table.proofs.Passed.{fit-at, fit-middle, Standing, standing-begin, standing-load, standing-end, Word, word-refused, word-marks, word-one, word-done, word-good, Marking, marking-begin, marking-head, marking-set, marking-clear, marking-end, mark-dist, step-fits, step-less}
-use Rattle.relr_table.proofs.Decoding.{decode-good}
-use Rattle.relr_table.proofs.Applying.{patched-length, patched-append, patched-one, contained-accepted, targets-over, targets-in}
+use Rattle.relr_table.proofs.Passed.{Standing, standing-begin, standing-load, standing-end, Word, word-refused, word-marks, word-one, word-done, word-good, Marking, marking-begin, marking-head, marking-set, marking-clear, marking-end, mark-dist, mark-fits, step-fits, step-less, space-most}
+use Rattle.relr_table.proofs.Decoding.{decode-good, contained-space}
+use Rattle.relr_table.proofs.Applying.{patched-length, patched-more, patched-one, targets-over, targets-in, targets-accepted}
 
 -- ---- an addition
 pub adds : (k : Class) (image new : List ℕ) (x base : ℕ) {w v : ℕ} → w ≡ wordAt (bytesOf k) image x → v ≡ (w + base) % 2 ^ bitsOf k → new ≡ withWord (bytesOf k) image x v
@@ -46,179 +45,227 @@ unfolding added
 adds k image new x base e f g = g ∙ rw (f, e)
 
 -- ---- a word's locations
-pub record Patching (k : Class) (old : List ℕ) (base start set : ℕ) (image : List ℕ) (bits d : ℕ) : Type 0 where
+pub record Patching (k : Class) (old : List ℕ) (base start anchor set : ℕ) (image : List ℕ) (bits d : ℕ) : Type 0 where
   pub p : List ℕ
   pub j : ℕ
-  pub marking : Marking k start set j bits d p
-  pub held : image ≡ patched (bytesOf k) base p old
+  pub marking : Marking k anchor set j bits d p
+  pub held : image ≡ patched (bytesOf k) base (indexes start p) old
 
-module _ {k : Class} {old : List ℕ} {base start set : ℕ} (m : Patchable k old start set) where
-  pub patching-begin : Patching k old base start set old set 0
-  unfolding patched
-  patching-begin = record { p = []; j = 0; marking = marking-begin k start set (m .in-window); held = refl }
+module _ {k : Class} {old : List ℕ} {base start anchor set : ℕ} (m : Patchable k start old anchor set) where
+  pub patching-begin : Patching k old base start anchor set old set 0
+  unfolding patched indexes
+  patching-begin = record { p = []; j = 0; marking = marking-begin k anchor set (m .in-window); held = refl }
 
-  module _ {image : List ℕ} {bits d : ℕ} (g : Patching k old base start set image bits d) where
+  module _ {image : List ℕ} {bits d : ℕ} (g : Patching k old base start anchor set image bits d) where
     pub patching-long : length image ≡ length old
-    patching-long = ap length (g .held) ∙ patched-length (bytesOf k) base (g .p) old
+    patching-long = ap length (g .held) ∙ patched-length (bytesOf k) base (indexes start (g .p)) old
 
-    pub patching-end : bits ≡ 0 → image ≡ patched (bytesOf k) base (marksOf k set start) old
+    pub patching-end : bits ≡ 0 → image ≡ patched (bytesOf k) base (indexes start (marksOf k set anchor)) old
     patching-end z = let e = marking-end (g .marking) z in rw e (g .held)
 
     module _ (nz : bits ≡ 0 → ⊥) where
       pub patching-dist : (c : ℕ) → c ≡ bytesOf k → Fits w64 (d + c)
       patching-dist c ce = mark-dist (g .marking) nz c ce
 
-      pub patching-clear : (c : ℕ) → c ≡ bytesOf k → (bits % 2 ≡ 1 → ⊥) → Patching k old base start set image (bits / 2) (d + c)
+      pub patching-clear : (c : ℕ) → c ≡ bytesOf k → (bits % 2 ≡ 1 → ⊥) → Patching k old base start anchor set image (bits / 2) (d + c)
       patching-clear c ce o = record { p = g .p; j = g .j + 1; marking = marking-clear (g .marking) nz ce (omega arith); held = g .held }
 
       module _ (o : bits % 2 ≡ 1) where
-        pub patching-in : start + d + bytesOf k ≤ length image
-        patching-in =
+        inside-here : Inside (bytesOf k) start (length old) (anchor + d)
+        inside-here =
             let (q, e) = marking-head (g .marking) nz o in
-            rw patching-long (fit-at (bytesOf k) (length old) (start + d) (g .p) q (sym (ap (fit (bytesOf k) (length old)) e) ∙ m .fits))
+            all-right (Inside (bytesOf k) start (length old)) (g .p) ((anchor + d) ∷ q) (rw e at (m .in-image)) .0
 
-        pub patching-fits : length old < 2 ^ 64 → Fits w64 (start + d)
-        patching-fits l = record { fits = omega (arith, patching-in, patching-long, bytes-least k) }
+        pub patching-low : start ≤ anchor + d
+        patching-low = inside-here .0
 
-        pub patching-set : (c : ℕ) {new : List ℕ} → c ≡ bytesOf k → new ≡ added (bytesOf k) base image (start + d) → Patching k old base start set new (bits / 2) (d + c)
+        pub patching-in : anchor + d - start + bytesOf k ≤ length image
+        patching-in = rw patching-long (inside-here .1)
+
+        pub patching-fits : Fits w64 (anchor + d)
+        patching-fits = mark-fits (g .marking) nz (m .in-space) o
+
+        pub patching-set : (c : ℕ) {new : List ℕ} → c ≡ bytesOf k → new ≡ added (bytesOf k) base image (anchor + d - start)
+            → Patching k old base start anchor set new (bits / 2) (d + c)
         patching-set c ce e =
             record {
-              p = g .p ++ (start + d) ∷ [];
+              p = g .p ++ (anchor + d) ∷ [];
               j = g .j + 1;
               marking = marking-set (g .marking) nz ce o;
-              held = e ∙ rw (g .held, patched-append) (sym (patched-one (bytesOf k) base (start + d) (patched (bytesOf k) base (g .p) old)));
+              held = e ∙ rw (g .held, patched-more) (sym (patched-one (bytesOf k) base start (anchor + d) (patched (bytesOf k) base (indexes start (g .p)) old)));
             }
 
-pub ruleset patchings = (adds, patching-begin, patching-long, patching-end, patching-dist, patching-clear, patching-in, patching-fits, patching-set, needs)
+pub ruleset patchings = (adds, patching-begin, patching-long, patching-end, patching-dist, patching-clear, patching-low, patching-in, patching-fits, patching-set, needs)
 
 -- ---- a table's words
-pub record Working (k : Class) (s old : List ℕ) (base at : ℕ) (p : Place) (image : List ℕ) : Type 0 where
+pub record Working (k : Class) (s old : List ℕ) (base start at : ℕ) (p : Place) (image : List ℕ) : Type 0 where
   pub list : List ℕ
   pub standing : Standing k s list at p
-  pub held : image ≡ patched (bytesOf k) base list old
+  pub held : image ≡ patched (bytesOf k) base (indexes start list) old
 
-module _ {k : Class} {s old : List ℕ} {base : ℕ} (f : Targeted k s old) where
-  pub working-begin : Working k s old base 0 Nowhere old
-  unfolding patched
+module _ {k : Class} {s old : List ℕ} {base start : ℕ} (f : Targeted k s start old) where
+  pub working-begin : Working k s old base start 0 Nowhere old
+  unfolding patched indexes
   working-begin = record { list = []; standing = standing-begin k s (f .good .whole); held = refl }
 
-  module _ {at : ℕ} {p : Place} {image : List ℕ} (g : Working k s old base at p image) where
+  module _ {at : ℕ} {p : Place} {image : List ℕ} (g : Working k s old base start at p image) where
     pub working-long : length image ≡ length old
-    working-long = ap length (g .held) ∙ patched-length (bytesOf k) base (g .list) old
+    working-long = ap length (g .held) ∙ patched-length (bytesOf k) base (indexes start (g .list)) old
 
-    pub working-end : length s ≤ at → Patched k s base old image
+    pub working-end : length s ≤ at → Patched k s base start old image
     working-end h l e = let q : l ≡ g .list = cc (standing-end (g .standing) h) in g .held ∙ rw q
 
-    module _ {start set : ℕ} {next : Place} (word : Word k s (g .list) at start set next) where
-      inside : fit (bytesOf k) (length image) (marksOf k set start) ≡ true
-      inside =
+    module _ {anchor set : ℕ} {next : Place} (word : Word k s (g .list) at anchor set next) where
+      in-image : All (Inside (bytesOf k) start (length image)) (marksOf k set anchor)
+      in-image =
           let a = word-good word (f .good .is) in
-          rw working-long
-          (fit-middle (bytesOf k) (length old) (g .list) (marksOf k set start) (a .rest) (sym (ap (fit (bytesOf k) (length old)) (a .whole)) ∙ f .fits))
+          let P = Inside (bytesOf k) start (length old) in
+          rw working-long (all-right P (g .list) (marksOf k set anchor) (all-left P (g .list ++ marksOf k set anchor) (a .rest) (rw (a .whole) at (f .in-image))))
 
-      more : {new : List ℕ} {c : ℕ} → c ≡ bytesOf k → new ≡ patched (bytesOf k) base (marksOf k set start) image → Working k s old base (at + c) next new
+      more : {new : List ℕ} {c : ℕ} → c ≡ bytesOf k → new ≡ patched (bytesOf k) base (indexes start (marksOf k set anchor)) image → Working k s old base start (at + c) next new
       more {new} {c} ce u =
           record {
-            list = g .list ++ marksOf k set start;
-            standing = subst (λ (b : ℕ). Standing k s (g .list ++ marksOf k set start) (at + b) next) (sym ce) (word-done word (word-good word (f .good .is) .fits));
-            held = u ∙ rw (g .held, patched-append);
+            list = g .list ++ marksOf k set anchor;
+            standing = subst (λ (b : ℕ). Standing k s (g .list ++ marksOf k set anchor) (at + b) next) (sym ce) (word-done word (word-good word (f .good .is) .fits));
+            held = u ∙ rw (g .held, patched-more);
           }
 
     module _ {x : ℕ} {r : Opened} (l : at < length s) (e : x ≡ wordAt (bytesOf k) s at) (o : OpensAt k p x r) where
-      pub working-not : {why : Refusal} {new : List ℕ} → r ≡ Refused why → Patched k s base old new
+      pub working-not : {why : Refusal} {new : List ℕ} → r ≡ Refused why → Patched k s base start old new
       working-not q = absurd (accepted-refused (f .good .is) (word-refused (g .standing) l e o q))
 
       module _ {y : ℕ} {next : Place} (q : r ≡ Address y next) where
         alone : Word k s (g .list) at y 1 next
         alone = word-one (g .standing) l e o q
 
-        pub working-in : y + bytesOf k ≤ length image
-        working-in = fit-at (bytesOf k) (length image) y [] [] (sym (ap (fit (bytesOf k) (length image)) (one-mark k y)) ∙ inside alone)
+        word-inside : Inside (bytesOf k) start (length image) y
+        word-inside = let h : All (Inside (bytesOf k) start (length image)) (y ∷ []) = rw (one-mark k y) at (in-image alone) in h .0
 
-        pub working-one : {new : List ℕ} {c : ℕ} → c ≡ bytesOf k → new ≡ added (bytesOf k) base image y → Working k s old base (at + c) next new
-        working-one ce u = more alone ce (u ∙ rw (one-mark k y) (sym (patched-one (bytesOf k) base y image)))
+        pub working-low : start ≤ y
+        working-low = word-inside .0
 
-      module _ {start set : ℕ} {next : Place} (q : r ≡ Marks start set next) where
-        word : Word k s (g .list) at start set next
+        pub working-in : y - start + bytesOf k ≤ length image
+        working-in = word-inside .1
+
+        pub working-one : {new : List ℕ} {c : ℕ} → c ≡ bytesOf k → new ≡ added (bytesOf k) base image (y - start) → Working k s old base start (at + c) next new
+        working-one ce u = more alone ce (u ∙ rw (one-mark k y) (sym (patched-one (bytesOf k) base start y image)))
+
+      module _ {anchor set : ℕ} {next : Place} (q : r ≡ Marks anchor set next) where
+        word : Word k s (g .list) at anchor set next
         word = word-marks (g .standing) l e o q
 
-        pub working-marks : Patchable k image start set
-        working-marks = record { in-window = word .in-window; fits = inside word }
+        pub working-marks : Patchable k start image anchor set
+        working-marks = record { in-window = word .in-window; in-space = word-good word (f .good .is) .fits; in-image = in-image word }
 
-        pub working-more : {new : List ℕ} {c : ℕ} → c ≡ bytesOf k → new ≡ patched (bytesOf k) base (marksOf k set start) image → Working k s old base (at + c) next new
+        pub working-more : {new : List ℕ} {c : ℕ} → c ≡ bytesOf k → new ≡ patched (bytesOf k) base (indexes start (marksOf k set anchor)) image
+            → Working k s old base start (at + c) next new
         working-more ce u = more word ce u
 
-module _ {k : Class} {s old : List ℕ} {base at : ℕ} {p : Place} {image : List ℕ} (g : Working k s old base at p image) where
+module _ {k : Class} {s old : List ℕ} {base start at : ℕ} {p : Place} {image : List ℕ} (g : Working k s old base start at p image) where
   pub working-load : at < length s → at + bytesOf k ≤ length s
   working-load l = standing-load (g .standing) l
 
-pub ruleset workings = (working-begin, working-long, working-end, working-not, working-in, working-one, working-marks, working-more, working-load, step-fits, step-less, needs)
+pub ruleset workings = (working-begin, working-long, working-end, working-not, working-low, working-in, working-one, working-marks, working-more, working-load, step-fits, step-less, needs)
+
+-- ---- the end of an image
+module _ (k : Class) (start size : ℕ) where
+  nowhere-inside : ((x : ℕ) → x + bytesOf k ≤ spaceOf k → start ≤ x → size < x - start + bytesOf k) → End k start size 0
+  nowhere-inside h x g =
+      elim (decLe start x) [
+        | yes l ↦ rw (le-leb start x l, lt-leb (x - start + bytesOf k) size (h x g l)) (le-ltb x 0 (omega arith))
+        | no l ↦ rw (lt-leb start x (omega arith))
+      ]
+
+  module _ (c last : ℕ) (ce : c ≡ bytesOf k) (le : last + bytesOf k ≡ spaceOf k) where
+    pub end-short : size < c → End k start size 0
+    end-short h = nowhere-inside (λ x g l. omega arith)
+
+    pub end-past : last < start → End k start size 0
+    end-past h = nowhere-inside (λ x g l. omega arith)
+
+    pub end-space : c ≤ size → start ≤ last → last - start < size - c → End k start size (last + 1)
+    end-space h f l x g =
+        elim (decLe start x) [
+          | yes q ↦ rw (le-leb start x q, lt-ltb x (last + 1) (omega arith)) (sym (le-leb (x - start + bytesOf k) size (omega arith)))
+          | no q ↦ rw (lt-leb start x (omega arith))
+        ]
+
+    pub end-image : c ≤ size → start ≤ last → size - c ≤ last - start → End k start size (start + (size - c) + 1)
+    end-image h f l x g =
+        elim (decLe start x) [
+          | yes q ↦ rw (le-leb start x q) (same q)
+          | no q ↦ rw (lt-leb start x (omega arith))
+        ]
+      where
+        same : start ≤ x → ltb x (start + (size - c) + 1) ≡ leb (x - start + bytesOf k) size
+        same q =
+            elim (decLe (x - start + bytesOf k) size) [
+              | yes n ↦ rw (le-leb (x - start + bytesOf k) size n) (lt-ltb x (start + (size - c) + 1) (omega arith))
+              | no n ↦ rw (lt-leb (x - start + bytesOf k) size (omega arith)) (le-ltb x (start + (size - c) + 1) (omega arith))
+            ]
+
+    pub end-last : Fits w64 (last + 1)
+    end-last = record { fits = omega (arith, space-most k, bytes-least k) }
+
+    pub end-sum : start ≤ last → size - c ≤ last - start → Fits w64 (start + (size - c))
+    end-sum f l = record { fits = omega (arith, space-most k, bytes-least k) }
+
+    pub end-next : start ≤ last → size - c ≤ last - start → Fits w64 (start + (size - c) + 1)
+    end-next f l = record { fits = omega (arith, space-most k, bytes-least k) }
+
+pub ruleset ends = (end-short, end-past, end-space, end-image, end-last, end-sum, end-next, needs)
 
 -- ---- applying as a whole
-pub places-none : (k : Class) (size c : ℕ) → c ≡ bytesOf k → size < c → 0 ≡ size + 1 - bytesOf k
-places-none k size c e h = omega arith
-
-pub places-some : (k : Class) (size c : ℕ) → c ≡ bytesOf k → c ≤ size → size - c + 1 ≡ size + 1 - bytesOf k
-places-some k size c e h = omega arith
-
-pub places-fits : (k : Class) (size c : ℕ) → c ≡ bytesOf k → c ≤ size → size < 2 ^ 64 → Fits w64 (size - c + 1)
-places-fits k size c e h l = record { fits = omega (arith, bytes-least k) }
-
 pub over-is : (k : Class) (base m : ℕ) → m + 1 ≡ 2 ^ bitsOf k → base < 2 ^ 64 → ltb m base ≡ above k base
 over-is Four base m e h = let f : m ≡ 4294967295 = omega arith in rw f
 over-is Eight base m e h = le-ltb m base (omega arith)
 
--- an offset is among those places exactly where its word ends inside
-same-test : (k : Class) (size x : ℕ) → below (size + 1 - bytesOf k) x ≡ ends (bytesOf k) size x
-same-test k size x =
-    elim (decLe (x + bytesOf k) size) [
-      | yes h ↦ rw (le-leb (x + bytesOf k) size h) (lt-ltb x (size + 1 - bytesOf k) (omega arith))
-      | no h ↦ rw (lt-leb (x + bytesOf k) size (omega arith)) (le-ltb x (size + 1 - bytesOf k) (omega (arith, bytes-least k)))
-    ]
+module _ (k : Class) (s : List ℕ) (base start : ℕ) (old : List ℕ) where
+  abbrev aims : Outcome (List ℕ)
+  aims = targets k s base start (length old)
 
-module _ (k : Class) (s : List ℕ) (base : ℕ) (old : List ℕ) where
-  changed-refused : {w : Refusal} {p : ℕ} → targets k s base (length old) ≡ refused w p → old ≡ changed (bytesOf k) base (targets k s base (length old)) old
+  changed-refused : {w : Refusal} {p : ℕ} → aims ≡ refused w p → old ≡ changed (bytesOf k) base start aims old
   unfolding changed
   changed-refused e = rw e
 
-  changed-accepted : {l : List ℕ} → targets k s base (length old) ≡ accepted l → changed (bytesOf k) base (targets k s base (length old)) old ≡ patched (bytesOf k) base l old
+  changed-accepted : {l : List ℕ} → aims ≡ accepted l → changed (bytesOf k) base start aims old ≡ patched (bytesOf k) base (indexes start l) old
   unfolding changed
   changed-accepted e = rw e
 
-  pub apply-over : {b : Bool} {a : Answer} → b ≡ above k base → b ≡ true → a ≡ refusal why.Base 0 → AppliesIn k s base old a old
+  pub apply-over : {b : Bool} {a : Answer} → b ≡ above k base → b ≡ true → a ≡ refusal why.Base 0 → AppliesIn k s base start old a old
   apply-over e f q =
-      let t = targets-over k s base (length old) (sym e ∙ f) in
+      let t = targets-over k s base start (length old) (sym e ∙ f) in
       record { answer = q ∙ sym (answer-none t); image = changed-refused t }
 
-  module _ {b : Bool} {n : ℕ} {f : Found} (be : b ≡ above k base) (bf : b ≡ false) (h : f ≡ foundOf (contained (below n) (decode k s))) (ne : n ≡ length old + 1 - bytesOf k) where
-    same : targets k s base (length old) ≡ contained (ends (bytesOf k) (length old)) (decode k s)
-    same = targets-in k s base (length old) (sym be ∙ bf)
+  module _ {b : Bool} (n : ℕ) {f : Found} (be : b ≡ above k base) (bf : b ≡ false) (h : f ≡ foundOf (contained (between start n) (decode k s))) (ne : End k start (length old) n) where
+    is : f ≡ foundOf aims
+    is =
+        h
+        ∙ ap foundOf
+        (contained-space k s (between start n) (inside (bytesOf k) start (length old)) ne ∙ sym (targets-in k s base start (length old) (sym be ∙ bf)))
 
-    is : f ≡ foundOf (targets k s base (length old))
-    is = h ∙ rw ne (ap foundOf (contained-same (below (length old + 1 - bytesOf k)) (ends (bytesOf k) (length old)) (same-test k (length old)) (decode k s) ∙ sym same))
-
-    pub apply-refused : {a : Answer} {w : Refusal} {p : ℕ} → f ≡ found.Refused w p → a ≡ refusal w p → AppliesIn k s base old a old
+    pub apply-refused : {a : Answer} {w : Refusal} {p : ℕ} → f ≡ found.Refused w p → a ≡ refusal w p → AppliesIn k s base start old a old
     apply-refused e q =
-        let t = not-found (targets k s base (length old)) (sym is ∙ e) in
+        let t = not-found aims (sym is ∙ e) in
         record { answer = q ∙ sym (answer-none t); image = changed-refused t }
 
     module _ {m : ℕ} (e : f ≡ Count m) where
-      has : Counted (targets k s base (length old)) m
-      has = found-count (targets k s base (length old)) (sym is ∙ e)
+      has : Counted aims m
+      has = found-count aims (sym is ∙ e)
 
-      both : (decode k s ≡ accepted (has .list)) × (fit (bytesOf k) (length old) (has .list) ≡ true)
-      both = contained-accepted (bytesOf k) (length old) (decode k s) (has .list) (sym same ∙ has .is)
+      both : (decode k s ≡ accepted (has .list)) × All (Inside (bytesOf k) start (length old)) (has .list)
+      both = targets-accepted k s base start (length old) (has .is)
 
-      pub apply-targeted : Targeted k s old
+      pub apply-targeted : Targeted k s start old
       apply-targeted =
           let d = decode-good k s (has .list) (both .0) in
-          record { good = record { whole = d .0; list = has .list; is = d .1 }; fits = both .1 }
+          record { good = record { whole = d .0; list = has .list; is = d .1 }; in-image = both .1 }
 
-      pub apply-done : {a : Answer} {new : List ℕ} → Patched k s base old new → a ≡ success m → AppliesIn k s base old a new
+      pub apply-done : {a : Answer} {new : List ℕ} → Patched k s base start old new → a ≡ success m → AppliesIn k s base start old a new
       apply-done p q =
           record {
             answer = q ∙ sym (answer-all has);
             image = p (has .list) (decode-good k s (has .list) (both .0) .1) ∙ sym (changed-accepted (has .is));
           }
 
-pub ruleset applies = (places-none, places-some, places-fits, over-is, apply-over, apply-refused, apply-targeted, apply-done, needs)
+pub ruleset applies = (over-is, apply-over, apply-refused, apply-targeted, apply-done, needs)

@@ -1,12 +1,12 @@
 // Applying a table to an image: an addition for each offset.
 ghost use mathlib.Core.Path.{_≡_};
-ghost use Prim.Native.Nat.{_+_, _-_, _≤_};
+ghost use Prim.Native.Nat.{_+_, _≤_};
 ghost use lib.ListN.{length};
 ghost use Rattle.word.specs.Class.{bytesOf};
-ghost use Rattle.relr_table.specs.Table.{above, added, patched};
+ghost use Rattle.relr_table.specs.Table.{above, indexes, added, patched};
 ghost use Rattle.relr_table.specs.Contract.{AppliesIn};
 ghost use Rattle.relr_table.specs.Inner.{marksOf};
-ghost use Rattle.relr_apply.specs.Inner.{Patchable, Targeted, Patched};
+ghost use Rattle.relr_apply.specs.Inner.{Patchable, Targeted, Patched, End};
 use answer::Answer;
 use answer::Found;
 use answer::Refusal;
@@ -24,15 +24,15 @@ fn add_at(k: Class, image: &mut [u8], x: usize, base: u64)
 }
 
 // Adds the base at each location that the bits mark from an offset on.
-fn patch_marks(k: Class, image: &mut [u8], base: u64, start: u64, set: u64)
-    requires { ⌜ Patchable k (now image) start set ⌝ }
-    ensures { λ _. ⌜ now (image .exit) ≡ patched (bytesOf k) base (marksOf k set start) (now (image .entry)) ⌝ }
+fn patch_marks(k: Class, image: &mut [u8], base: u64, start: u64, anchor: u64, set: u64)
+    requires { ⌜ Patchable k start (now image) anchor set ⌝ }
+    ensures { λ _. ⌜ now (image .exit) ≡ patched (bytesOf k) base (indexes start (marksOf k set anchor)) (now (image .entry)) ⌝ }
 {
     let mut bits = set;
     let mut d: u64 = 0;
     while bits != 0 {
         if bits % 2 == 1 {
-            add_at(k, &mut *image, (start + d) as usize, base);
+            add_at(k, &mut *image, (anchor + d - start) as usize, base);
         }
         bits = bits / 2;
         d += k.bytes() as u64;
@@ -40,9 +40,9 @@ fn patch_marks(k: Class, image: &mut [u8], base: u64, start: u64, set: u64)
 }
 
 // The second pass, over a table that the first accepted, whose words all lie inside the image.
-fn patch(k: Class, s: &[u8], base: u64, image: &mut [u8])
-    requires { ⌜ Targeted k (now s) (now image) ⌝ }
-    ensures { λ _. ⌜ Patched k (now (s .entry)) base (now (image .entry)) (now (image .exit)) ⌝ }
+fn patch(k: Class, s: &[u8], base: u64, start: u64, image: &mut [u8])
+    requires { ⌜ Targeted k (now s) start (now image) ⌝ }
+    ensures { λ _. ⌜ Patched k (now (s .entry)) base start (now (image .entry)) (now (image .exit)) ⌝ }
 {
     let c = k.bytes() as usize;
     let mut at: usize = 0;
@@ -55,26 +55,35 @@ fn patch(k: Class, s: &[u8], base: u64, image: &mut [u8])
                 return;
             }
             Opened::Address(x, next) => {
-                add_at(k, &mut *image, x as usize, base);
+                add_at(k, &mut *image, (x - start) as usize, base);
                 place = next;
             }
-            Opened::Marks(start, set, next) => {
-                patch_marks(k, &mut *image, base, start, set);
+            Opened::Marks(anchor, set, next) => {
+                patch_marks(k, &mut *image, base, start, anchor, set);
                 place = next;
             }
         }
     }
 }
 
-// How many offsets have their whole word inside so many bytes.
-fn places(k: Class, size: usize) -> u64
-    ensures { λ r. ⌜ r ≡ size + 1 - bytesOf k ⌝ }
+// One more than the last offset of the space whose word lies inside an image of so many bytes that begins at an address, or a number
+// that is no more than that address.
+fn end(k: Class, start: u64, size: usize) -> u64
+    ensures { λ r. ⌜ End k start size r ⌝ }
 {
     let c = k.bytes() as usize;
+    let last = k.last();
     if size < c {
         return 0;
     }
-    (size - c + 1) as u64
+    if last < start {
+        return 0;
+    }
+    let most = (size - c) as u64;
+    if last - start < most {
+        return last + 1;
+    }
+    start + most + 1
 }
 
 // Whether a base is too large for the class.
@@ -85,17 +94,17 @@ fn over(k: Class, base: u64) -> bool
 }
 
 // Applying, for a class.
-pub fn apply_class(k: Class, table: &[u8], base: u64, image: &mut [u8]) -> Answer
-    ensures { λ r. ⌜ AppliesIn k (now (table .entry)) base (now (image .entry)) r (now (image .exit)) ⌝ }
+pub fn apply_class(k: Class, table: &[u8], base: u64, start: u64, image: &mut [u8]) -> Answer
+    ensures { λ r. ⌜ AppliesIn k (now (table .entry)) base start (now (image .entry)) r (now (image .exit)) ⌝ }
 {
     if over(k, base) {
         return answer::refuse(Refusal::Base, 0);
     }
-    let found = relr_walk::find(k, table, places(k, image.len()));
+    let found = relr_walk::find(k, table, start, end(k, start, image.len()));
     match found {
         Found::Refused(why, at) => answer::refuse(why, at),
         Found::Count(count) => {
-            patch(k, table, base, image);
+            patch(k, table, base, start, image);
             answer::accept(count)
         }
     }

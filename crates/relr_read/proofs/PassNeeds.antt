@@ -1,5 +1,6 @@
 -- The needs of the second pass of a read, stated as the code asks them.
 -- Assumes nothing.
+use mathlib.Core.Bool.{true}
 use mathlib.Core.List.{List, [], _∷_, _++_}
 use mathlib.Core.Path.{_≡_, refl, sym, ap, subst, _∙_}
 use Prim.Native.Nat.{ℕ, _+_, _*_, _/_, _%_, _^_, _≤_, _<_}
@@ -10,6 +11,7 @@ use lib.Seq.{sets, length-sets}
 use mir.Syntax.{w64}
 use mir.Val.{Fits}
 use borrow.Author.Needs.{needs, scaled-fits}
+use borrow.Author.Tests.{lt-ltb, le-leb}
 use Rattle.answer.specs.declared.Refusal.{Refusal}
 use Rattle.answer.specs.Outcome.Laws.{accepted-refused, after-long, sets-append, buffer-more, buffer-long, found-count, filled-self, gives-not, gives-short, gives-full}
 use Rattle.answer.specs.Written.{Written}
@@ -23,26 +25,27 @@ use Rattle.word.specs.Class.Laws.{bytes-least}
 use Rattle.relr_table.specs.Place.{Place, Nowhere}
 use Rattle.relr_table.specs.declared.place.Opened.{Opened}
 use Rattle.relr_table.specs.declared.place.Opened.the-variants.{Address, Marks, Refused}
-use Rattle.relr_table.specs.Inner.{marksOf, OpensAt, below}
+use Rattle.relr_table.specs.Inner.{marksOf, OpensAt, between}
 use Rattle.relr_read.specs.Inner.{Markable, Fillable, Filled}
 use Rattle.relr_table.proofs.PlaceNeeds.{one-mark}
 use Rattle.relr_table.proofs.Passed.{Standing, standing-begin, standing-load, standing-end, Word, word-refused, word-marks, word-one, word-done, word-good, among-long, Marking, marking-begin, marking-set, marking-clear, marking-end, step-fits, step-less, mark-dist, mark-fits, mark-more, step-fits, step-less, space-most}
 use Rattle.relr_table.specs.Table.{spaceOf, decode, contained}
 use Rattle.relr_table.proofs.Decoding.{decode-good, contained-space}
+use Rattle.relr_table.proofs.Leading.{contained-every}
 
 -- ---- a word's locations
-pub record Filling (k : Class) (old : List ℕ) (at start set : ℕ) (column : List ℕ) (bits d i : ℕ) : Type 0 where
+pub record Filling (k : Class) (old : List ℕ) (at anchor set : ℕ) (column : List ℕ) (bits d i : ℕ) : Type 0 where
   pub p : List ℕ
   pub j : ℕ
-  pub marking : Marking k start set j bits d p
+  pub marking : Marking k anchor set j bits d p
   pub list : column ≡ sets old at p
   pub next : i ≡ at + length p
 
-module _ {k : Class} {old : List ℕ} {at start set : ℕ} (m : Markable k old at start set) where
-  pub filling-begin : Filling k old at start set old set 0 at
-  filling-begin = record { p = []; j = 0; marking = marking-begin k start set (m .in-window); list = refl; next = omega arith }
+module _ {k : Class} {old : List ℕ} {at anchor set : ℕ} (m : Markable k old at anchor set) where
+  pub filling-begin : Filling k old at anchor set old set 0 at
+  filling-begin = record { p = []; j = 0; marking = marking-begin k anchor set (m .in-window); list = refl; next = omega arith }
 
-  module _ {column : List ℕ} {bits d i : ℕ} (g : Filling k old at start set column bits d i) where
+  module _ {column : List ℕ} {bits d i : ℕ} (g : Filling k old at anchor set column bits d i) where
     pub filling-long : length column ≡ length old
     filling-long = ap length (g .list) ∙ length-sets old at (g .p)
 
@@ -50,11 +53,11 @@ module _ {k : Class} {old : List ℕ} {at start set : ℕ} (m : Markable k old a
       pub filling-dist : (c : ℕ) → c ≡ bytesOf k → Fits w64 (d + c)
       filling-dist c ce = mark-dist (g .marking) nz c ce
 
-      pub filling-clear : (c : ℕ) → c ≡ bytesOf k → (bits % 2 ≡ 1 → ⊥) → Filling k old at start set column (bits / 2) (d + c) i
+      pub filling-clear : (c : ℕ) → c ≡ bytesOf k → (bits % 2 ≡ 1 → ⊥) → Filling k old at anchor set column (bits / 2) (d + c) i
       filling-clear c ce o = record { p = g .p; j = g .j + 1; marking = marking-clear (g .marking) nz ce (omega arith); list = g .list; next = g .next }
 
       module _ (o : bits % 2 ≡ 1) where
-        pub filling-fits : Fits w64 (start + d)
+        pub filling-fits : Fits w64 (anchor + d)
         filling-fits = mark-fits (g .marking) nz (m .fits) o
 
         pub filling-in : i < length column
@@ -66,17 +69,17 @@ module _ {k : Class} {old : List ℕ} {at start set : ℕ} (m : Markable k old a
         pub filling-next : length old < 2 ^ 64 → Fits w64 (i + 1)
         filling-next q = record { fits = omega (arith, filling-in, filling-long) }
 
-        pub filling-set : (c : ℕ) → c ≡ bytesOf k → Filling k old at start set (stored column i (start + d)) (bits / 2) (d + c) (i + 1)
+        pub filling-set : (c : ℕ) → c ≡ bytesOf k → Filling k old at anchor set (stored column i (anchor + d)) (bits / 2) (d + c) (i + 1)
         filling-set c ce =
             record {
-              p = g .p ++ (start + d) ∷ [];
+              p = g .p ++ (anchor + d) ∷ [];
               j = g .j + 1;
               marking = marking-set (g .marking) nz ce o;
-              list = rw (g .list, g .next) (sets-append old at (g .p) ((start + d) ∷ []));
-              next = omega (arith, g .next, length-append (g .p) ((start + d) ∷ []));
+              list = rw (g .list, g .next) (sets-append old at (g .p) ((anchor + d) ∷ []));
+              next = omega (arith, g .next, length-append (g .p) ((anchor + d) ∷ []));
             }
 
-    pub filling-end : bits ≡ 0 → Written old column at i (marksOf k set start)
+    pub filling-end : bits ≡ 0 → Written old column at i (marksOf k set anchor)
     filling-end z = let e = marking-end (g .marking) z in record { list = rw e (g .list); place = rw e (g .next) }
 
 pub ruleset markings = (filling-begin, filling-long, filling-dist, filling-clear, filling-fits, filling-in, filling-scaled, filling-next, filling-set, filling-end, needs)
@@ -102,17 +105,17 @@ module _ {k : Class} {s old : List ℕ} (f : Fillable k s old) where
     pub reading-end : length s ≤ at → Filled k s old column
     reading-end h l e = let q : l ≡ g .list = cc (standing-end (g .standing) h) in g .held ∙ rw (q, g .next)
 
-    module _ {start set : ℕ} {next : Place} (word : Word k s (g .list) at start set next) where
-      room : length (g .list) + length (marksOf k set start) ≤ length old
+    module _ {anchor set : ℕ} {next : Place} (word : Word k s (g .list) at anchor set next) where
+      room : length (g .list) + length (marksOf k set anchor) ≤ length old
       room = omega (arith, among-long (word-good word (f .good .is)), f .room)
 
-      more : {new : List ℕ} {c n : ℕ} → c ≡ bytesOf k → Written column new i n (marksOf k set start) → Reading k s old (at + c) next new n
+      more : {new : List ℕ} {c n : ℕ} → c ≡ bytesOf k → Written column new i n (marksOf k set anchor) → Reading k s old (at + c) next new n
       more {new} {c} {n} ce u =
           record {
-            list = g .list ++ marksOf k set start;
-            standing = subst (λ (b : ℕ). Standing k s (g .list ++ marksOf k set start) (at + b) next) (sym ce) (word-done word (word-good word (f .good .is) .fits));
-            next = omega (arith, u .place, g .next, length-append (g .list) (marksOf k set start));
-            held = u .list ∙ buffer-more (g .list) old i (marksOf k set start) (g .held) (sym (g .next)) (omega (arith, room, g .next)) ∙ rw (u .place);
+            list = g .list ++ marksOf k set anchor;
+            standing = subst (λ (b : ℕ). Standing k s (g .list ++ marksOf k set anchor) (at + b) next) (sym ce) (word-done word (word-good word (f .good .is) .fits));
+            next = omega (arith, u .place, g .next, length-append (g .list) (marksOf k set anchor));
+            held = u .list ∙ buffer-more (g .list) old i (marksOf k set anchor) (g .held) (sym (g .next)) (omega (arith, room, g .next)) ∙ rw (u .place);
           }
 
     module _ {x : ℕ} {r : Opened} (l : at < length s) (e : x ≡ wordAt (bytesOf k) s at) (o : OpensAt k p x r) where
@@ -135,14 +138,14 @@ module _ {k : Class} {s old : List ℕ} (f : Fillable k s old) where
         pub reading-one : {c : ℕ} → c ≡ bytesOf k → Reading k s old (at + c) next (stored column i y) (i + 1)
         reading-one ce = let m = one-mark k y in let e : i + 1 ≡ i + length (marksOf k 1 y) = omega (arith, ap length m) in more alone ce (record { list = rw m; place = e })
 
-      module _ {start set : ℕ} {next : Place} (q : r ≡ Marks start set next) where
-        word : Word k s (g .list) at start set next
+      module _ {anchor set : ℕ} {next : Place} (q : r ≡ Marks anchor set next) where
+        word : Word k s (g .list) at anchor set next
         word = word-marks (g .standing) l e o q
 
-        pub reading-marks : Markable k column i start set
+        pub reading-marks : Markable k column i anchor set
         reading-marks = record { in-window = word .in-window; fits = word-good word (f .good .is) .fits; room = omega (arith, room word, reading-long, g .next) }
 
-        pub reading-more : {new : List ℕ} {c n : ℕ} → c ≡ bytesOf k → Written column new i n (marksOf k set start) → Reading k s old (at + c) next new n
+        pub reading-more : {new : List ℕ} {c n : ℕ} → c ≡ bytesOf k → Written column new i n (marksOf k set anchor) → Reading k s old (at + c) next new n
         reading-more ce u = more word ce u
 
 module _ {k : Class} {s old : List ℕ} {at : ℕ} {p : Place} {column : List ℕ} {i : ℕ} (g : Reading k s old at p column i) where
@@ -156,8 +159,12 @@ pub past-last : (k : Class) (last : ℕ) → last + bytesOf k ≡ spaceOf k → 
 past-last k last h = record { fits = omega (arith, space-most k, bytes-least k) }
 
 -- a bound past the last offset of the space, where a class has two names
-pub counts-from : {k j : Class} (e : k ≡ j) (s : List ℕ) (last : ℕ) {f : Found} → last + bytesOf j ≡ spaceOf j → f ≡ foundOf (contained (below (last + 1)) (decode j s)) → f ≡ foundOf (decode k s)
-counts-from {k} {j} e s last {f} g h = subst (λ (i : Class). f ≡ foundOf (decode i s)) (sym e) (h ∙ ap foundOf (contained-space j s last g))
+pub counts-from : {k j : Class} (e : k ≡ j) (s : List ℕ) (last : ℕ) {f : Found} → last + bytesOf j ≡ spaceOf j → f ≡ foundOf (contained (between 0 (last + 1)) (decode j s))
+    → f ≡ foundOf (decode k s)
+counts-from {k} {j} e s last {f} g h =
+    let all : contained (between 0 (last + 1)) (decode j s) ≡ decode j s =
+    contained-space j s (between 0 (last + 1)) (λ x. true) (λ x l. rw (le-leb 0 x (omega arith)) (lt-ltb x (last + 1) (omega arith))) ∙ contained-every (decode j s) in
+    subst (λ (i : Class). f ≡ foundOf (decode i s)) (sym e) (h ∙ ap foundOf all)
 
 pub ruleset counts = (past-last, counts-from, needs)
 

@@ -13,16 +13,16 @@ use relr_table::place::Opened;
 use word::Class;
 
 // Puts the locations that the bits mark from an offset on into a column, and returns the index after them.
-fn fill_marks(k: Class, column: &mut [u64], at: usize, start: u64, set: u64) -> usize
-    requires { ⌜ Markable k (now column) at start set ⌝ }
-    ensures { λ r. ⌜ Written (now (column .entry)) (now (column .exit)) at r (marksOf k set start) ⌝ }
+fn fill_marks(k: Class, column: &mut [u64], at: usize, anchor: u64, set: u64) -> usize
+    requires { ⌜ Markable k (now column) at anchor set ⌝ }
+    ensures { λ r. ⌜ Written (now (column .entry)) (now (column .exit)) at r (marksOf k set anchor) ⌝ }
 {
     let mut bits = set;
     let mut d: u64 = 0;
     let mut i = at;
     while bits != 0 {
         if bits % 2 == 1 {
-            column[i] = start + d;
+            column[i] = anchor + d;
             i += 1;
         }
         bits = bits / 2;
@@ -52,8 +52,8 @@ fn fill(k: Class, s: &[u8], column: &mut [u64])
                 i += 1;
                 place = next;
             }
-            Opened::Marks(start, set, next) => {
-                i = fill_marks(k, &mut *column, i, start, set);
+            Opened::Marks(anchor, set, next) => {
+                i = fill_marks(k, &mut *column, i, anchor, set);
                 place = next;
             }
         }
@@ -65,8 +65,8 @@ fn count(k: Class, table: &[u8]) -> Found
     ensures { λ r. ⌜ r ≡ foundOf (decode k (now (table .entry))) ⌝ }
 {
     match k {
-        Class::Four => relr_walk::find_by(false, table, Class::Four.last() + 1),
-        Class::Eight => relr_walk::find_by(true, table, Class::Eight.last() + 1),
+        Class::Four => relr_walk::find_by(false, table, 0, Class::Four.last() + 1),
+        Class::Eight => relr_walk::find_by(true, table, 0, Class::Eight.last() + 1),
     }
 }
 

@@ -3,20 +3,21 @@
 use mathlib.Core.Bool.{Bool, true, false, cond, _&&_}
 use mathlib.Core.List.{List, [], _∷_, _++_}
 use mathlib.Core.Logic.{_⊎_, inl, inr}
-use mathlib.Core.Path.{_≡_, refl, subst, _∙_}
-use Prim.Native.Nat.{ℕ, suc, _+_, _*_, _%_, _^_, _≤_, _<_}
+use mathlib.Core.Path.{_≡_, refl, _∙_}
+use Prim.Native.Nat.{ℕ, _+_, _-_, _*_, _%_, _^_, _≤_, _<_}
 use native.Mathlib.Omega.{arith}
-use lib.Dec.{leb, eqb}
+use lib.Dec.{leb}
 use lib.ListN.{length, getD}
-use borrow.Author.Tests.{eqb-true, leb-true}
+use borrow.Author.Tests.{leb-true, le-leb}
 use Rattle.answer.specs.declared.Refusal.the-variants as why
-use Rattle.answer.specs.Outcome.{Outcome, accepted, refused}
+use Rattle.answer.specs.Outcome.{accepted, refused}
 use Rattle.word.specs.declared.Class.{Class}
 use Rattle.word.specs.Class.{bytesOf}
 use Rattle.word.specs.Word.{wordAt}
 use Rattle.word.specs.Word.Laws.{store-length, store-before, store-after}
-use Rattle.relr_table.specs.Words.{fit}
-use Rattle.relr_table.specs.Table.{decode, ends, leading, contained, above, targets, added, patched, Apart}
+use Rattle.relr_table.specs.Table.{decode, inside, Inside, All, contained, above, targets, indexes, added, patched, Apart}
+use Rattle.relr_table.proofs.Leading.{contained-accepted}
+use Rattle.relr_table.proofs.Marked.{all-map}
 
 -- ---- additions, one after another
 pub added-length : (c base : ℕ) (image : List ℕ) (x : ℕ) → length (added c base image x) ≡ length image
@@ -33,62 +34,64 @@ unfolding patched
 patched-append c base [] q image = refl
 patched-append c base (x ∷ p) q image = patched-append c base p q (added c base image x)
 
-pub patched-one : (c base x : ℕ) (image : List ℕ) → patched c base (x ∷ []) image ≡ added c base image x
-unfolding patched
-patched-one c base x image = refl
+-- ---- the same at the indexes of offsets
+indexes-append : (start : ℕ) (p q : List ℕ) → indexes start (p ++ q) ≡ indexes start p ++ indexes start q
+unfolding indexes
+indexes-append start [] q = refl
+indexes-append start (x ∷ p) q = rw (indexes-append start p q)
+
+module _ (c base start : ℕ) where
+  pub patched-more : (p q image : List ℕ) → patched c base (indexes start (p ++ q)) image ≡ patched c base (indexes start q) (patched c base (indexes start p) image)
+  patched-more p q image = rw (indexes-append start p q) (patched-append c base (indexes start p) (indexes start q) image)
+
+  pub patched-one : (x : ℕ) (image : List ℕ) → patched c base (indexes start (x ∷ [])) image ≡ added c base image (x - start)
+  unfolding patched indexes
+  patched-one x image = refl
 
 -- ---- a byte that lies in no word at a listed offset is as it was
-module _ (c base i : ℕ) where
-  added-apart : (image : List ℕ) (x : ℕ) → x + c ≤ length image → (i < x) ⊎ (x + c ≤ i) → getD (added c base image x) i 0 ≡ getD image i 0
+module _ (c base start i : ℕ) where
+  added-apart : (image : List ℕ) (x : ℕ) → Inside c start (length image) x → (start + i < x) ⊎ (x + c ≤ start + i) → getD (added c base image (x - start)) i 0 ≡ getD image i 0
   unfolding added
-  added-apart image x room (inl h) = store-before c image x ((wordAt c image x + base) % 2 ^ (8 * c)) room i h
-  added-apart image x room (inr h) = store-after c image x ((wordAt c image x + base) % 2 ^ (8 * c)) room i h
+  added-apart image x (low, room) (inl h) = store-before c image (x - start) ((wordAt c image (x - start) + base) % 2 ^ (8 * c)) room i (omega arith)
+  added-apart image x (low, room) (inr h) = store-after c image (x - start) ((wordAt c image (x - start) + base) % 2 ^ (8 * c)) room i (omega arith)
 
-  pub patched-apart : (l image : List ℕ) → fit c (length image) l ≡ true → Apart c i l → getD (patched c base l image) i 0 ≡ getD image i 0
-  unfolding patched fit
-  patched-apart [] image e a = refl
-  patched-apart (x ∷ l) image e a = go (leb (x + c) (length image)) refl (λ f. patched-apart l (added c base image x) (rw (added-length c base image x) f) (a .1)) e
+  pub patched-apart : (l image : List ℕ) → All (Inside c start (length image)) l → Apart c (start + i) l → getD (patched c base (indexes start l) image) i 0 ≡ getD image i 0
+  unfolding patched indexes
+  patched-apart [] image h a = refl
+  patched-apart (x ∷ l) image h a =
+      patched-apart l (added c base image (x - start)) (rw (added-length c base image (x - start)) (h .1)) (a .1) ∙ added-apart image x (h .0) (a .0)
+
+-- ---- the test of an offset, as a fact
+module _ (c start size x : ℕ) where
+  pub inside-true : inside c start size x ≡ true → Inside c start size x
+  inside-true e = go (leb start x) (leb (x - start + c) size) refl refl e
     where
-      go : (b : Bool) → leb (x + c) (length image) ≡ b → (fit c (length image) l ≡ true → getD (patched c base l (added c base image x)) i 0 ≡ getD (added c base image x) i 0)
-          → (b && fit c (length image) l) ≡ true → getD (patched c base l (added c base image x)) i 0 ≡ getD image i 0
-      go true h ih f = ih f ∙ added-apart image x (leb-true (x + c) (length image) h) (a .0)
-      go false h ih f = let z : _≡_ {A = ℕ} 0 1 = cc in absurd (omega arith)
+      go : (a b : Bool) → leb start x ≡ a → leb (x - start + c) size ≡ b → (a && b) ≡ true → Inside c start size x
+      go true true f g h = (leb-true start x f, leb-true (x - start + c) size g)
+      go true false f g h = let z : _≡_ {A = ℕ} 0 1 = cc in absurd (omega arith)
+      go false b f g h = let z : _≡_ {A = ℕ} 0 1 = cc in absurd (omega arith)
+
+  pub true-inside : Inside c start size x → inside c start size x ≡ true
+  true-inside (low, room) = rw (le-leb start x low) (le-leb (x - start + c) size room)
 
 -- ---- the offsets at which a table is applied
-leading-fit : (c size : ℕ) (l : List ℕ) → leading (ends c size) l ≡ length l → fit c size l ≡ true
-unfolding leading fit
-leading-fit c size [] e = refl
-leading-fit c size (x ∷ l) e = go (leb (x + c) size) (leading-fit c size l) e
-  where
-    go : (b : Bool) → (leading (ends c size) l ≡ length l → fit c size l ≡ true) → cond b (suc (leading (ends c size) l)) 0 ≡ suc (length l) → (b && fit c size l) ≡ true
-    go true ih e = ih (omega arith)
-    go false ih e = absurd (omega arith)
-
-pub contained-accepted : (c size : ℕ) (o : Outcome (List ℕ)) (l : List ℕ) → contained (ends c size) o ≡ accepted l → (o ≡ accepted l) × (fit c size l ≡ true)
-unfolding contained
-contained-accepted c size (accepted m) l e = go (eqb (leading (ends c size) m) (length m)) refl e
-  where
-    go : (b : Bool) → eqb (leading (ends c size) m) (length m) ≡ b → cond b (accepted m) (refused why.Outside (leading (ends c size) m)) ≡ accepted l → (accepted m ≡ accepted l) × (fit c size l ≡ true)
-    go true h f =
-        let q : m ≡ l = cc in
-        (f, subst (λ (n : List ℕ). fit c size n ≡ true) q (leading-fit c size m (eqb-true (leading (ends c size) m) (length m) h)))
-    go false h f = let z : _≡_ {A = ℕ} 0 1 = cc in absurd (omega arith)
-contained-accepted c size (refused w p) l e = let z : _≡_ {A = ℕ} 0 1 = cc in absurd (omega arith)
-
-module _ (k : Class) (s : List ℕ) (base size : ℕ) where
-  pub targets-over : above k base ≡ true → targets k s base size ≡ refused why.Base 0
+module _ (k : Class) (s : List ℕ) (base start size : ℕ) where
+  pub targets-over : above k base ≡ true → targets k s base start size ≡ refused why.Base 0
   unfolding targets
   targets-over e = rw e
 
-  pub targets-in : above k base ≡ false → targets k s base size ≡ contained (ends (bytesOf k) size) (decode k s)
+  pub targets-in : above k base ≡ false → targets k s base start size ≡ contained (inside (bytesOf k) start size) (decode k s)
   unfolding targets
   targets-in e = rw e
 
   -- a table that is applied is accepted, and each of its words lies inside the image
-  pub targets-accepted : {l : List ℕ} → targets k s base size ≡ accepted l → (decode k s ≡ accepted l) × (fit (bytesOf k) size l ≡ true)
+  pub targets-accepted : {l : List ℕ} → targets k s base start size ≡ accepted l → (decode k s ≡ accepted l) × All (Inside (bytesOf k) start size) l
   unfolding targets
   targets-accepted {l} e = go (above k base) refl e
     where
-      go : (b : Bool) → above k base ≡ b → cond b (refused why.Base 0) (contained (ends (bytesOf k) size) (decode k s)) ≡ accepted l → (decode k s ≡ accepted l) × (fit (bytesOf k) size l ≡ true)
+      go : (b : Bool) → above k base ≡ b → cond b (refused why.Base 0) (contained (inside (bytesOf k) start size) (decode k s)) ≡ accepted l
+          → (decode k s ≡ accepted l) × All (Inside (bytesOf k) start size) l
       go true h f = let z : _≡_ {A = ℕ} 0 1 = cc in absurd (omega arith)
-      go false h f = contained-accepted (bytesOf k) size (decode k s) l f
+      go false h f =
+          let (d, a) = contained-accepted (inside (bytesOf k) start size) (decode k s) f in
+          (d, all-map (λ x. inside (bytesOf k) start size x ≡ true) (Inside (bytesOf k) start size) (inside-true (bytesOf k) start size) l a)

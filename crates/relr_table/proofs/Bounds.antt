@@ -1,17 +1,16 @@
 -- How large the place of a refusal can be, and how long a list that is read and a table that is written.
 -- Assumes nothing.
-use Prim.Native.Nat.{ℕ, zero, suc, _+_, _*_, _/_, _%_, _≤_, _<_}
+use Prim.Native.Nat.{ℕ, suc, _+_, _*_, _/_, _%_, _≤_, _<_}
 use mathlib.Core.Path.{_≡_, ap}
 use mathlib.Core.List.{List, [], _∷_}
 use mathlib.Core.Bool.{Bool, cond}
-use lib.Dec.{eqb, leb, ltb}
+use lib.Dec.{eqb, ltb}
 use lib.ListN.{length, length-append}
 use native.Mathlib.Nat.{mul-le-mul-left, mul-le-mul-right}
 use native.Mathlib.Omega.{arith}
 use Rattle.answer.specs.Limits.{list-most}
-use Rattle.answer.specs.declared.Refusal.{Refusal}
 use Rattle.answer.specs.declared.Refusal.the-variants.{Missing, Order, Space, Odd, Outside, Base}
-use Rattle.answer.specs.Outcome.{Outcome, accepted, refused, after, inputLimit, listLimit}
+use Rattle.answer.specs.Outcome.{Outcome, accepted, refused, inputLimit, listLimit}
 use Rattle.answer.specs.Said.{OfOutcome, OfList, AtMost, Bounded, of-map, of-cond, of-limited, of-after, list-of, list-map, list-limited, list-after}
 use Rattle.answer.specs.Outcome.Laws.{limited-accepted}
 use Rattle.word.specs.declared.Class.{Class}
@@ -20,59 +19,24 @@ use Rattle.word.specs.Class.{bytesOf, windowOf}
 use Rattle.word.specs.Class.Laws.{bytes-least}
 use Rattle.word.specs.Word.{wordsOf}
 use Rattle.word.specs.Word.Laws.{words-first, words-length}
-use Rattle.relr_table.specs.Words.{Where, nowhere, from, marked, fit, anchored, read}
-use Rattle.relr_table.specs.Table.{spaceOf, parse, decode, tableBytes, checked, build, encode, leading, ends, contained, above, targets}
+use Rattle.relr_table.specs.Words.{Where, nowhere, read}
+use Rattle.relr_table.specs.Table.{spaceOf, parse, decode, tableBytes, checked, build, encode, leading, inside, contained, above, targets}
+use Rattle.relr_table.proofs.Refusals.{each-word}
 use Rattle.relr_table.proofs.Leading.{leading-le}
 use Rattle.relr_table.proofs.RoundTrip.{encode-is, encode-legal, table-most}
 
 -- ---- what is read
-marked-most : (c k b at : ℕ) → length (marked c k b at) ≤ k
-unfolding marked
-marked-most c zero b at = omega arith
-marked-most c (suc k) b at =
-    let rest = marked c k (b / 2) (at + c) in
-    of-cond (λ (l : List ℕ). length l ≤ suc k) (eqb (b % 2) 1) (at ∷ rest) rest (omega (arith, marked-most c k (b / 2) (at + c))) (omega (arith, marked-most c k (b / 2) (at + c)))
-
--- what is true of no words, of a word that is refused and of one that gives at most n offsets is true of all: Q is said of so many words
--- from a byte on, and of their outcome
-module _ (c n top : ℕ) (some : 0 < n) (Q : ℕ → ℕ → Outcome (List ℕ) → Type 0) (end : (i : ℕ) → Q 0 i (accepted [])) (fault : (m i : ℕ) (why : Refusal) → Q (suc m) i (refused why i))
-    (word : (m i : ℕ) (xs : List ℕ) (o : Outcome (List ℕ)) → length xs ≤ n → Q m (i + c) o → Q (suc m) i (after xs o)) where
-  bitmap : (x : ℕ) (t : List ℕ) (i : ℕ) → ((v : ℕ) → Q (length t) (i + c) (read c n top t (i + c) (from v))) → (w : Where)
-      → Q (suc (length t)) i
-      (anchored w i λ u. cond (fit c top (marked c n (x / 2) u)) (after (marked c n (x / 2) u) (read c n top t (i + c) (from (u + n * c)))) (refused Space i))
-  unfolding anchored
-  bitmap x t i rest nowhere = fault (length t) i Order
-  bitmap x t i rest (from u) =
-      let next = read c n top t (i + c) (from (u + n * c)) in
-      of-cond (Q (suc (length t)) i) (fit c top (marked c n (x / 2) u)) (after (marked c n (x / 2) u) next) (refused Space i)
-      (word (length t) i (marked c n (x / 2) u) next (marked-most c n (x / 2) u) (rest (u + n * c))) (fault (length t) i Space)
-
-  address : (x : ℕ) (t : List ℕ) (i : ℕ) → ((v : ℕ) → Q (length t) (i + c) (read c n top t (i + c) (from v)))
-      → Q (suc (length t)) i (cond (leb (x + c) top) (after (x ∷ []) (read c n top t (i + c) (from (x + c)))) (refused Space i))
-  address x t i rest =
-      let next = read c n top t (i + c) (from (x + c)) in
-      of-cond (Q (suc (length t)) i) (leb (x + c) top) (after (x ∷ []) next) (refused Space i) (word (length t) i (x ∷ []) next (omega arith) (rest (x + c))) (fault (length t) i Space)
-
-  each-word : (t : List ℕ) (i : ℕ) (w : Where) → Q (length t) i (read c n top t i w)
-  unfolding read
-  each-word [] i w = end i
-  each-word (x ∷ t) i w =
-      of-cond (Q (suc (length t)) i) (eqb (x % 2) 0)
-      (cond (leb (x + c) top) (after (x ∷ []) (read c n top t (i + c) (from (x + c)))) (refused Space i))
-      (anchored w i λ u. cond (fit c top (marked c n (x / 2) u)) (after (marked c n (x / 2) u) (read c n top t (i + c) (from (u + n * c)))) (refused Space i))
-      (address x t i (λ v. each-word t (i + c) (from v))) (bitmap x t i (λ v. each-word t (i + c) (from v)) w)
-
 module _ (c n top : ℕ) (some : 0 < n) where
   -- words give at most n offsets each, wherever they stand and whatever stands before them
   pub words-most : (t : List ℕ) (i : ℕ) (w : Where) → OfList (λ (l : List ℕ). length l ≤ length t * n) (read c n top t i w)
   words-most =
-      each-word c n top some (λ (m i : ℕ) (o : Outcome (List ℕ)). OfList (λ (l : List ℕ). length l ≤ m * n) o) (λ i. omega arith) (λ m i why. tt)
+      each-word c n top some (λ (m i : ℕ) (o : Outcome (List ℕ)). OfList (λ (l : List ℕ). length l ≤ m * n) o) (λ i. omega arith) (λ m i. tt) (λ m i. tt)
       (λ m i xs o h k. list-after (λ (l : List ℕ). length l ≤ m * n) (λ (l : List ℕ). length l ≤ suc m * n) xs o (λ l q. omega (arith, length-append xs l)) k)
 
   -- and are refused at the byte of a word
   words-place : (t : List ℕ) (i : ℕ) (w : Where) → OfOutcome (AtMost (i + length t * c)) (read c n top t i w)
   words-place =
-      each-word c n top some (λ (m i : ℕ) (o : Outcome (List ℕ)). OfOutcome (AtMost (i + m * c)) o) (λ i. tt) (λ m i why. omega arith)
+      each-word c n top some (λ (m i : ℕ) (o : Outcome (List ℕ)). OfOutcome (AtMost (i + m * c)) o) (λ i. tt) (λ m i. omega arith) (λ m i. omega arith)
       (λ m i xs o h k. of-after (AtMost (i + suc m * c)) xs o (of-map (AtMost (i + c + m * c)) (AtMost (i + suc m * c)) o (λ why p q. omega arith) k))
 
 module _ (k : Class) where
@@ -151,13 +115,13 @@ module _ (k : Class) where
       of-cond (OfList (λ (m : List ℕ). length m ≤ most)) (eqb (leading test l) (length l)) (accepted l) (refused Outside (leading test l)) (b .long) tt
   contained-long test (refused why p) b = tt
 
-  pub targets-bounded : (s : List ℕ) (base size : ℕ) → Bounded most most (targets k s base size)
+  pub targets-bounded : (s : List ℕ) (base start size : ℕ) → Bounded most most (targets k s base start size)
   unfolding targets
-  targets-bounded s base size =
-      let o = contained (ends (bytesOf k) size) (decode k s) in
+  targets-bounded s base start size =
+      let o = contained (inside (bytesOf k) start size) (decode k s) in
       record {
-        place = of-cond (OfOutcome (AtMost most)) (above k base) (refused Base 0) o (omega arith) (contained-place (ends (bytesOf k) size) (decode k s) (decode-bounded s));
-        long = of-cond (OfList (λ (l : List ℕ). length l ≤ most)) (above k base) (refused Base 0) o tt (contained-long (ends (bytesOf k) size) (decode k s) (decode-bounded s));
+        place = of-cond (OfOutcome (AtMost most)) (above k base) (refused Base 0) o (omega arith) (contained-place (inside (bytesOf k) start size) (decode k s) (decode-bounded s));
+        long = of-cond (OfList (λ (l : List ℕ). length l ≤ most)) (above k base) (refused Base 0) o tt (contained-long (inside (bytesOf k) start size) (decode k s) (decode-bounded s));
       }
 
 -- ---- what is written

@@ -9,7 +9,8 @@ use lib.Dec.{leb, le→leb}
 use lib.ListN.{length, length-append}
 use Rattle.answer.specs.Outcome.{accepted}
 use Rattle.relr_table.specs.Words.{nowhere, from, marked, fit, read, word, table, Legal}
-use Rattle.relr_table.proofs.Marked.{All, all-left, all-right, of-T}
+use Rattle.relr_table.specs.Table.{All}
+use Rattle.relr_table.proofs.Marked.{all-left, all-right, of-T}
 use Rattle.relr_table.proofs.Accepted.{Reads, r-nil, r-word, r-map, reads-read}
 use Rattle.relr_table.proofs.Greedy.{Greedy, g-nil, g-word, g-map, Rising, write-greedy}
 

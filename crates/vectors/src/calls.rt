@@ -119,6 +119,6 @@ fn apply(settings: Settings, table: &[u8]) {
     let m = input::capped(input::u32le(), BYTES);
     let image: &mut [u8] = &mut space[..m];
     input::bytes(image);
-    let a = relr::apply(settings.class, table, settings.base, image);
+    let a = relr::apply(settings.class, table, settings.base, settings.start, image);
     output::line(a, output::bytes(output::EMPTY, image));
 }

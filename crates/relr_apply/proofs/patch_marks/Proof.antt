@@ -1,5 +1,5 @@
-use Rattle.relr_apply.proofs.PassNeeds.{Patching, patchings}
 use mathlib.Core.Logic.{⊎-elim}
+use Rattle.relr_apply.proofs.PassNeeds.{Patching, patchings}
 use Rattle.relr_apply.proofs.patch_marks.Statement.{statement}
 use Rattle.relr_apply.proofs.patch_marks.Tie as tie
 use Rattle.relr_apply.proofs.patch_marks.Reads as reads
@@ -8,16 +8,19 @@ use Rattle.relr_apply.proofs.add_at.Reads as add-at-reads
 use Rattle.word.proofs.Class.bytes.Reads as bytes-reads
 
 abbrev Inv-loop : tie.InvT-loop
-Inv-loop k image₀ base start set bits₀ d₀ image bits d = Patching k image₀ base start set image bits d
+Inv-loop k image₀ base start anchor set bits₀ d₀ image bits d = Patching k image₀ base start anchor set image bits d
 
 abbrev μ-loop : tie.MeasureT-loop
-μ-loop k image₀ base start set bits₀ d₀ image bits d = bits
+μ-loop k image₀ base start anchor set bits₀ d₀ image bits d = bits
 
 loop-holds : tie.Need-loop-holds Inv-loop μ-loop
 loop-holds c = search patchings
 
 add-add-at : tie.Need-add-add-at Inv-loop μ-loop
 add-add-at c = search patchings
+
+sub-add-at : tie.Need-sub-add-at Inv-loop μ-loop
+sub-add-at c = search patchings
 
 add-at-requires : tie.Need-add-at-requires Inv-loop μ-loop
 add-at-requires c κs = search patchings
@@ -51,6 +54,7 @@ patch-marks-spec =
     μ-loop
     loop-holds
     add-add-at
+    sub-add-at
     add-at-requires
     bytes-requires
     cast-d

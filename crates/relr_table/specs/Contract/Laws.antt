@@ -49,9 +49,9 @@ module _ (class : ℕ) (l old : List ℕ) {n : Named} (e : n ≡ classOf class) 
           least = λ k f. let o : _≡_ {A = ℕ} 0 1 = cc in absurd (omega arith);
         }
 
-    pub applies-unknown : (base : ℕ) → Applies class l base old a old
+    pub applies-unknown : (base start : ℕ) → Applies class l base start old a old
     unfolding applying imageAfter
-    applies-unknown base =
+    applies-unknown base start =
         let z : classOf class ≡ Unknown = sym e ∙ u in
         record { answer = q ∙ rw z (sym (answer-none refl)); image = rw z }
 
@@ -66,9 +66,9 @@ module _ (class : ℕ) (l old : List ℕ) {n : Named} (e : n ≡ classOf class) 
           least = λ j f h. let q : k ≡ j = cc in rw q at (w .least (rw (← q) at h));
         }
 
-    pub applies-named : (base : ℕ) → AppliesIn k l base old a new → Applies class l base old a new
+    pub applies-named : (base start : ℕ) → AppliesIn k l base start old a new → Applies class l base start old a new
     unfolding applying imageAfter
-    applies-named base r =
+    applies-named base start r =
         let z : classOf class ≡ Is k = sym e ∙ u in
         record { answer = rw z (r .answer); image = rw z (r .image) }
 
