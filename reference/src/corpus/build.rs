@@ -71,6 +71,9 @@ impl Build<'_> {
         if self.edge(2) {
             self.raise(class, &mut table);
         }
+        if self.edge(12) {
+            table.clear();
+        }
         if kind == 2 {
             self.damage(RELR_READ, class, &mut table);
         }
@@ -150,11 +153,12 @@ impl Build<'_> {
     /// An image for words that end so many bytes behind its start: mostly it holds
     /// them all, sometimes exactly, sometimes not quite.
     fn image(&mut self, end: usize) -> Vec<u8> {
-        let length = match self.arm(6, 1) {
+        let length = match self.arm(6, 4) {
             0 => end.saturating_sub(1 + self.rng.index(12)),
             1 => self.rng.index(end + 1),
             2 => end + self.rng.index(20),
             6 => end.saturating_sub(1),
+            7.. => end + self.rng.index(2_000),
             _ => end,
         };
         (0..length).map(|_| if self.edge(2) { 0xFF } else { self.rng.draw() as u8 }).collect()
