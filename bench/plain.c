@@ -50,26 +50,26 @@ BODY size_t relr_read(uint32_t class_, const uint8_t *table, size_t length, uint
     return (size_t)(next - offsets);
 }
 
-/* Applies RELR: the same loop, with an addition at each offset. */
+/* Applies RELR: the same loop, with an addition at each offset less the start. */
 BODY size_t relr_apply(uint32_t class_, const uint8_t *table, size_t length, uint64_t base,
-                       uint8_t *image) {
+                       uint64_t start, uint8_t *image) {
     size_t count = 0;
-    uint8_t *start = image;
+    uint8_t *where = image;
     for (const uint8_t *at = table; at != table + length; at += class_) {
         uint64_t word = load(class_, at);
         if ((word & 1) == 0) {
-            start = image + word;
-            store(class_, start, load(class_, start) + base);
-            start += class_;
+            where = image + (word - start);
+            store(class_, where, load(class_, where) + base);
+            where += class_;
             count++;
             continue;
         }
-        for (uint8_t *place = start; (word >>= 1) != 0; place += class_)
+        for (uint8_t *place = where; (word >>= 1) != 0; place += class_)
             if (word & 1) {
                 store(class_, place, load(class_, place) + base);
                 count++;
             }
-        start += window_of(class_) * class_;
+        where += window_of(class_) * class_;
     }
     return count;
 }
@@ -210,8 +210,8 @@ size_t plain_relr_write(uint32_t class_, const uint64_t *offsets, size_t count, 
 
 /* Applies RELR, for either class. */
 size_t plain_relr_apply(uint32_t class_, const uint8_t *table, size_t length, uint64_t base,
-                        uint8_t *image) {
-    return BY_CLASS(relr_apply, table, length, base, image);
+                        uint64_t start, uint8_t *image) {
+    return BY_CLASS(relr_apply, table, length, base, start, image);
 }
 
 /* Reads APR1. */

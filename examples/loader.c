@@ -1,6 +1,8 @@
 /* A loader: adds the load base to the words of an image that a RELR table
  * names, keeps the list of them, and shows that a refused table leaves the image
- * as it was. It has no heap: what a call needs is compared with what there is. */
+ * as it was. The module is linked at 0x1000, so the table's offsets count from
+ * there, and the image's first byte is the one at 0x1000. It has no heap: what a
+ * call needs is compared with what there is. */
 #include "reloc.h"
 
 #include <inttypes.h>
@@ -17,19 +19,25 @@ static uint8_t image[WORDS * CLASS] = {
     0x78, 0x56, 0x00, 0x00, 0x00, 0x00, 0x00, 0x00, /* 0x5678 */
 };
 
-/* Offsets 0, 16, 24: the address 0, then a bitmap of the words after it, 0xD. */
-static const uint8_t table[] = {0, 0, 0, 0, 0, 0, 0, 0, 0x0D, 0, 0, 0, 0, 0, 0, 0};
+/* Offsets 0x1000, 0x1010, 0x1018: the address 0x1000, then a bitmap of the words
+ * after it, 0xD. */
+static const uint8_t table[] = {0, 0x10, 0, 0, 0, 0, 0, 0, 0x0D, 0, 0, 0, 0, 0, 0, 0};
 
 static const uint64_t base = 0x10000;
+
+/* The address that the image's first byte is linked at. */
+static const uint64_t start = 0x1000;
 
 /* The offsets of the words that were patched. */
 static uint64_t kept[KEPT];
 
-static uint64_t word(size_t offset)
+/* The word at an address of the image. */
+static uint64_t word(uint64_t address)
 {
+    const uint8_t *at = image + (address - start);
     uint64_t value = 0;
     for (size_t k = CLASS; k > 0; k--) {
-        value = value * 256 + image[offset + k - 1];
+        value = value * 256 + at[k - 1];
     }
     return value;
 }
@@ -38,7 +46,7 @@ static void print(const char *when)
 {
     printf("%s:", when);
     for (size_t k = 0; k < WORDS; k++) {
-        printf(" %016" PRIx64, word(k * CLASS));
+        printf(" %016" PRIx64, word(start + k * CLASS));
     }
     printf("\n");
 }
@@ -69,9 +77,26 @@ static int keep(void)
     }
     printf("kept:");
     for (size_t k = 0; k < answer.count; k++) {
-        printf(" %" PRIu64, kept[k]);
+        printf(" %#" PRIx64, kept[k]);
     }
     printf("\n");
+    return 0;
+}
+
+/* Applies the table to an image that does not hold all of its words: the answer
+ * names the first of them, and nothing is patched. */
+static int outside(const char *what, uint64_t first, size_t length, uint64_t place)
+{
+    uint8_t before[sizeof image];
+    memcpy(before, image, sizeof image);
+    struct reloc_answer answer =
+        reloc_relr_apply(CLASS, table, sizeof table, base, first, image, length);
+    if (answer.number != RELOC_REFUSED_OUTSIDE || answer.place != place || answer.count != 0 ||
+        memcmp(image, before, sizeof image) != 0) {
+        printf("%s: not refused as outside, or the image changed\n", what);
+        return 1;
+    }
+    refused(what, answer);
     return 0;
 }
 
@@ -83,27 +108,22 @@ int main(void)
     }
     printf("reloc " RELOC_VERSION_TEXT "\n");
 
-    uint8_t before[sizeof image];
-    memcpy(before, image, sizeof image);
-
-    /* Of an image one byte short, the last word ends outside: nothing is patched. */
-    struct reloc_answer answer =
-        reloc_relr_apply(CLASS, table, sizeof table, base, image, sizeof image - 1);
-    if (answer.number != RELOC_REFUSED_OUTSIDE || answer.place != 2 || answer.count != 0 ||
-        memcmp(image, before, sizeof image) != 0) {
-        printf("not refused as outside, or the image changed\n");
+    /* Of an image one byte short, the last word ends beyond it; of one that starts
+     * a word too high, the first word is below it. */
+    if (outside("a byte short, image unchanged", start, sizeof image - 1, 2) != 0 ||
+        outside("a word too high, image unchanged", start + CLASS, sizeof image, 0) != 0) {
         return 1;
     }
-    refused("image unchanged", answer);
 
     print("before");
-    answer = reloc_relr_apply(CLASS, table, sizeof table, base, image, sizeof image);
+    struct reloc_answer answer =
+        reloc_relr_apply(CLASS, table, sizeof table, base, start, image, sizeof image);
     if (answer.number != RELOC_OK) {
         return refused("the table", answer);
     }
     print("after ");
-    if (word(0) != 0x11234 || word(8) != 0x5555555555555555 || word(16) != 0x8000 ||
-        word(24) != 0x15678) {
+    if (word(0x1000) != 0x11234 || word(0x1008) != 0x5555555555555555 ||
+        word(0x1010) != 0x8000 || word(0x1018) != 0x15678) {
         printf("patched otherwise than the table says\n");
         return 1;
     }

@@ -16,8 +16,8 @@
  * only read. The entries of a record stand at one index of each column; columns
  * of one call have one length.
  *
- * What every call promises, whatever the class, the base and the contents and
- * lengths of its buffers
+ * What every call promises, whatever the class, the base, the start and the
+ * contents and lengths of its buffers
  *
  *   It returns, with an answer (see struct reloc_answer). On success it changes
  *   what its comment says and leaves the rest of every buffer as it was. On a
@@ -94,8 +94,8 @@ extern "C" {
  *
  *     if (reloc_version() != RELOC_VERSION) the header is not the library's
  */
-#define RELOC_VERSION 4000u
-#define RELOC_VERSION_TEXT "0.4.0"
+#define RELOC_VERSION 5000u
+#define RELOC_VERSION_TEXT "0.5.0"
 
 /* The version of the library, as RELOC_VERSION. */
 RELOC_NODISCARD
@@ -153,8 +153,10 @@ enum reloc_number {
                                      needed */
     RELOC_REFUSED_ODD = 10,       /* RELR write: an odd offset; place is its index */
     RELOC_REFUSED_COLUMNS = 11,   /* columns of different lengths; place 0 */
-    RELOC_REFUSED_OUTSIDE = 12,   /* apply: a word ends outside the image; place is
-                                     the index in the list that the table decodes to */
+    RELOC_REFUSED_OUTSIDE = 12,   /* apply: a word does not lie inside the image: its
+                                     offset is below the start, or it ends beyond the
+                                     image; place is the index in the list that the
+                                     table decodes to */
     RELOC_REFUSED_EMPTY = 13,     /* APR1 write: an empty list; place 0 */
     RELOC_REFUSED_ADDEND = 14,    /* RELLEB class 4 write: an addend outside signed
                                      32 bits; place is its index */
@@ -214,16 +216,30 @@ struct reloc_answer reloc_relr_write(uint32_t class_, const uint64_t *offsets, s
 
 /*
  * Applies a RELR table: adds base to the image's word at each offset of the
- * table, in order, wrapping at W bits. An offset is an index into the image.
+ * table, in order, wrapping at W bits.
+ *
+ * start is the address of the image's first byte, as the table counts addresses:
+ * the one that the module's first segment is linked at, such as 0x1000. An offset
+ * minus start is an index into the image; where start is 0 the offset is the
+ * index. The word at an offset lies inside the image exactly when
+ *
+ *     start <= offset  and  offset - start + class_ <= image_len
+ *
+ * as whole numbers. start is any number, also one past the class's address space,
+ * and start + image_len may pass 2^64: nothing wraps, and a table of no offsets is
+ * accepted with every start.
  *
  * Changes the words at those offsets. count: additions made.
  *
  * Refuses: CLASS, BASE, LIMIT, MISSING (not whole words), { ORDER, SPACE },
- * OUTSIDE. Every offset is tried against the image before any word is changed.
+ * OUTSIDE. OUTSIDE: a word does not lie inside the image; place is the index of the
+ * first such offset, whichever end it passes. Every offset is tried against the
+ * image before any word is changed.
  */
 RELOC_NODISCARD
 struct reloc_answer reloc_relr_apply(uint32_t class_, const uint8_t *table, size_t table_len,
-                                     uint64_t base, uint8_t *image, size_t image_len);
+                                     uint64_t base, uint64_t start, uint8_t *image,
+                                     size_t image_len);
 
 /*
  * Reads an APR1 table: the identifier, N, the first offset A, then N pairs C, D,

@@ -62,10 +62,13 @@ static void numbers(void)
     EXPECT(RELOC_REFUSED_ROOM, reloc_relr_read(8, word, 8, NULL, 0));
     EXPECT(RELOC_REFUSED_ODD, reloc_relr_write(8, odd, 1, NULL, 0));
     EXPECT(RELOC_REFUSED_COLUMNS, reloc_apa1_read(NULL, 0, offset, 1, NULL, 0));
-    EXPECT(RELOC_REFUSED_OUTSIDE, reloc_relr_apply(8, word, 8, 0, image, 4));
+    EXPECT(RELOC_REFUSED_OUTSIDE, reloc_relr_apply(8, word, 8, 0, 0, image, 4));
+    EXPECT(RELOC_REFUSED_OUTSIDE, reloc_relr_apply(4, word, 4, 0, 1, image, 4));
+    EXPECT(RELOC_OK, reloc_relr_apply(4, word, 4, 0, 0, image, 4));
+    EXPECT(RELOC_OK, reloc_relr_apply(4, NULL, 0, 0, UINT64_MAX, NULL, 0));
     EXPECT(RELOC_REFUSED_EMPTY, reloc_apr1_write(NULL, 0, NULL, 0));
     EXPECT(RELOC_REFUSED_ADDEND, reloc_relleb_write(4, odd, 1, zero, 1, zero, 1, wide, 1, NULL, 0));
-    EXPECT(RELOC_REFUSED_BASE, reloc_relr_apply(4, NULL, 0, UINT64_C(1) << 32, NULL, 0));
+    EXPECT(RELOC_REFUSED_BASE, reloc_relr_apply(4, NULL, 0, UINT64_C(1) << 32, 0, NULL, 0));
     check("a number without a name", strcmp(reloc_name(16), "unknown") == 0);
 }
 
@@ -88,7 +91,7 @@ static void limits(void)
     for (int over = 0; over < 2; over++) {
         size_t m = RELOC_INPUT_LIMIT + (size_t)over, n = RELOC_LIST_LIMIT + (size_t)over;
         limit("relr_read", reloc_relr_read(8, table, m, NULL, 0), over);
-        limit("relr_apply", reloc_relr_apply(8, table, m, 0, NULL, 0), over);
+        limit("relr_apply", reloc_relr_apply(8, table, m, 0, 0, NULL, 0), over);
         limit("apr1_read", reloc_apr1_read(table, m, NULL, 0), over);
         limit("apa1_read", reloc_apa1_read(table, m, NULL, 0, NULL, 0), over);
         limit("relleb_read",

@@ -1,7 +1,7 @@
 //! Each call on tables and lists up to its limit.
 
 use crate::programs::{Program, library, rust};
-use crate::rows::Row;
+use crate::rows::{Row, START};
 use reference::corpus::calls::{
     APA1_READ, APA1_WRITE, APR1_READ, APR1_WRITE, RELLEB_READ, RELLEB_WRITE, RELR_READ, RELR_WRITE,
 };
@@ -64,17 +64,18 @@ fn named(call: &str, class: u32) -> String {
 }
 
 /// Addresses of an image of 64 words, again and again.
-fn addresses(class: u32, bytes: usize) -> Vec<u8> {
-    let words = (0..bytes as u64 / class as u64).map(|index| index % 64 * class as u64);
+fn addresses(class: u32, start: u64, bytes: usize) -> Vec<u8> {
+    let words = (0..bytes as u64 / class as u64).map(|index| start + index % 64 * class as u64);
     relr_bytes(class, &words.collect::<Vec<_>>())
 }
 
 fn relr_read(class: u32, bytes: usize) -> Case {
-    Case::read_into(RELR_READ, class, &addresses(class, bytes), bytes / class as usize)
+    Case::read_into(RELR_READ, class, &addresses(class, 0, bytes), bytes / class as usize)
 }
 
 fn relr_apply(class: u32, bytes: usize) -> Case {
-    Case::apply(class, &addresses(class, bytes), 1, &vec![FILL; 64 * class as usize])
+    let image = vec![FILL; 64 * class as usize];
+    Case::apply(class, &addresses(class, START, bytes), 1, START, &image)
 }
 
 /// Offsets that fall on no bitmap: a word for each.

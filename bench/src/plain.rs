@@ -17,6 +17,7 @@ unsafe extern "C" {
         table: *const u8,
         length: usize,
         base: u64,
+        start: u64,
         image: *mut u8,
     ) -> usize;
 
@@ -65,7 +66,7 @@ pub unsafe fn run(case: &mut Case) -> usize {
         match case.call {
             RELR_READ => plain_relr_read(case.class, i, length, o),
             RELR_WRITE => plain_relr_write(case.class, o, count, b),
-            RELR_APPLY => plain_relr_apply(case.class, i, length, case.base, b),
+            RELR_APPLY => plain_relr_apply(case.class, i, length, case.base, case.start, b),
             APR1_READ => plain_apr1_read(i, o),
             APR1_WRITE => plain_apr1_write(o, count, b),
             APA1_READ => plain_apa1_read(i, o, a),

@@ -20,7 +20,7 @@ macro_rules! call {
         match $case.call {
             RELR_READ => $module::relr_read(class, i, o),
             RELR_WRITE => $module::relr_write(class, o, b),
-            RELR_APPLY => $module::relr_apply(class, i, $case.base, b),
+            RELR_APPLY => $module::relr_apply(class, i, $case.base, $case.start, b),
             APR1_READ => $module::apr1_read(i, o),
             APR1_WRITE => $module::apr1_write(o, b),
             APA1_READ => $module::apa1_read(i, o, a),

@@ -24,7 +24,7 @@ pub const ROOM: u32 = 9;
 pub const ODD: u32 = 10;
 /// Columns differ in length.
 pub const COLUMNS: u32 = 11;
-/// A word ends outside the image.
+/// A word is not inside the image.
 pub const OUTSIDE: u32 = 12;
 /// A list is empty.
 pub const EMPTY: u32 = 13;

@@ -18,17 +18,18 @@ pub fn relr_write(class: u32, offsets: &[u64], table: &mut [u8]) -> Answer {
     by_class!(class, write(offsets, table))
 }
 
-/// Adds the base to the image's word at each offset of a table.
-pub fn relr_apply(class: u32, table: &[u8], base: u64, image: &mut [u8]) -> Answer {
-    by_class!(class, apply(table, base, image))
+/// Adds the base to the image's word at each offset of a table; the image's first byte is at the
+/// start.
+pub fn relr_apply(class: u32, table: &[u8], base: u64, start: u64, image: &mut [u8]) -> Answer {
+    by_class!(class, apply(table, base, start, image))
 }
 
 /// Reading, for a class.
 fn read<W: Word>(table: &[u8], offsets: &mut [u64]) -> Answer {
-    let found = find::<W>(table, u64::MAX)?;
+    let found = find::<W>(table, Inside { start: 0, places: u64::MAX })?;
     enough(offsets.len(), found.count as u64)?;
     let mut room = offsets.iter_mut();
-    decode::<W>(table, |offset| {
+    decode::<W>(table, 0, |offset| {
         if let Some(entry) = room.next() {
             *entry = offset;
         }
@@ -37,17 +38,16 @@ fn read<W: Word>(table: &[u8], offsets: &mut [u64]) -> Answer {
 }
 
 /// Applying, for a class.
-fn apply<W: Word>(table: &[u8], base: u64, image: &mut [u8]) -> Answer {
+fn apply<W: Word>(table: &[u8], base: u64, start: u64, image: &mut [u8]) -> Answer {
     if base > W::TOP {
         return refuse(BASE, 0);
     }
-    let places = (image.len() as u64 + 1).saturating_sub(W::STEP);
-    let found = find::<W>(table, places)?;
+    let found = find::<W>(table, Inside::of::<W>(start, image.len()))?;
     if let Some(index) = found.outside {
         return refuse(OUTSIDE, index);
     }
-    decode::<W>(table, |offset| {
-        let at = offset as usize;
+    decode::<W>(table, start, |index| {
+        let at = index as usize;
         let word = &mut image[at..at + W::BYTES];
         W::store(W::load(word).wrapping_add(base), word);
     });
@@ -55,9 +55,9 @@ fn apply<W: Word>(table: &[u8], base: u64, image: &mut [u8]) -> Answer {
 }
 
 /// The first pass over a table: looks at every word, and answers what it found.
-fn find<W: Word>(table: &[u8], places: u64) -> Result<Found<W>, Refusal> {
+fn find<W: Word>(table: &[u8], inside: Inside) -> Result<Found<W>, Refusal> {
     opened::<W>(table)?;
-    let mut found = Found { start: 0, places, count: 0, outside: None, word: PhantomData };
+    let mut found = Found { place: 0, inside, count: 0, outside: None, word: PhantomData };
     for (index, word) in words::<W>(table).enumerate() {
         let legal = if word % 2 == 0 { found.address(word) } else { found.bitmap(word >> 1) };
         if !legal {
@@ -67,11 +67,31 @@ fn find<W: Word>(table: &[u8], places: u64) -> Result<Found<W>, Refusal> {
     Ok(found)
 }
 
-/// What the first pass has found: *where*, the offsets so far, and the index of the first that is
-/// not below `places`. Past the largest number *where* stays at it: no offset is there.
-struct Found<W> {
+/// The offsets whose words lie inside an image: so many from its start on.
+struct Inside {
     start: u64,
     places: u64,
+}
+
+impl Inside {
+    /// An image of a length: its places end at its last whole word, or at the largest number.
+    fn of<W: Word>(start: u64, length: usize) -> Self {
+        let words = (length as u64 + 1).saturating_sub(W::STEP);
+        Inside { start, places: words.min((u64::MAX - start).saturating_add(1)) }
+    }
+
+    /// Whether an offset is one of them. Below the start the difference wraps to 2^64 - start or
+    /// more, and there are no more places than that.
+    fn holds(&self, offset: u64) -> bool {
+        offset.wrapping_sub(self.start) < self.places
+    }
+}
+
+/// What the first pass has found: *where*, the offsets so far, and the index of the first that is
+/// not inside. Past the largest number *where* stays at it: no offset is there.
+struct Found<W> {
+    place: u64,
+    inside: Inside,
     count: usize,
     outside: Option<usize>,
     word: PhantomData<W>,
@@ -80,24 +100,24 @@ struct Found<W> {
 impl<W: Word> Found<W> {
     /// Takes an address; false when it is outside the space.
     fn address(&mut self, offset: u64) -> bool {
-        if offset >= self.places {
+        if !self.inside.holds(offset) {
             self.outside.get_or_insert(self.count);
         }
         self.count += 1;
-        self.start = offset.saturating_add(W::STEP);
+        self.place = offset.saturating_add(W::STEP);
         offset <= W::LAST
     }
 
     /// Takes the bits of a bitmap; false when one is outside the space.
     fn bitmap(&mut self, set: u64) -> bool {
-        let first = self.start;
-        self.start = first.saturating_add(W::WINDOW * W::STEP);
+        let first = self.place;
+        self.place = first.saturating_add(W::WINDOW * W::STEP);
         for k in ones(set) {
             let offset = first.saturating_add(k * W::STEP);
             if offset > W::LAST {
                 return false;
             }
-            if offset >= self.places {
+            if !self.inside.holds(offset) {
                 self.outside.get_or_insert(self.count);
             }
             self.count += 1;
@@ -118,16 +138,18 @@ fn opened<W: Word>(table: &[u8]) -> Result<(), Refusal> {
     }
 }
 
-/// The second pass: gives the offsets of an accepted table, in order.
-fn decode<W: Word>(table: &[u8], mut put: impl FnMut(u64)) {
-    let mut start = 0u64;
+/// The second pass: gives the offsets of an accepted table, in order, less a start that none is
+/// below.
+fn decode<W: Word>(table: &[u8], start: u64, mut put: impl FnMut(u64)) {
+    let mut place = 0u64;
     for word in words::<W>(table) {
         if word % 2 == 0 {
-            put(word);
-            start = word.wrapping_add(W::STEP);
+            let index = word - start;
+            put(index);
+            place = index.wrapping_add(W::STEP);
         } else {
-            ones(word >> 1).for_each(|k| put(start + k * W::STEP));
-            start = start.wrapping_add(W::WINDOW * W::STEP);
+            ones(word >> 1).for_each(|k| put(place + k * W::STEP));
+            place = place.wrapping_add(W::WINDOW * W::STEP);
         }
     }
 }

@@ -13,6 +13,9 @@ const SEED: u64 = 1;
 /// What is added when a table is applied.
 const BASE: u64 = 0x1234_5678;
 
+/// The start of the image that a table is applied to.
+pub const START: u64 = 0x1000;
+
 /// A row: its name, and its case of so many records.
 pub struct Row {
     pub name: String,
@@ -93,20 +96,27 @@ fn written(list: &Case) -> Vec<u8> {
 /// The applying of a table to an image of as many words as it has offsets.
 fn applied(shape: Shape, class: u32, records: usize) -> Case {
     let table = match shape {
-        Shape::Dense => written(&relr_list(shape, class, records)),
+        Shape::Dense => written(&words_from_start(class, records)),
         Shape::Sparse => sparse_turns(class, records),
-        Shape::Addresses => relr_bytes(class, &relr_list(Shape::Dense, class, records).offsets),
+        Shape::Addresses => relr_bytes(class, &words_from_start(class, records).offsets),
     };
-    Case::apply(class, &table, BASE, &vec![FILL; records * class as usize])
+    Case::apply(class, &table, BASE, START, &vec![FILL; records * class as usize])
 }
 
-/// A sparse table of one offset a word, which goes back to 0 when a bitmap would pass the image's
-/// end.
+/// The list of an image's words, all of them.
+fn words_from_start(class: u32, records: usize) -> Case {
+    let mut list = relr_list(Shape::Dense, class, records);
+    list.offsets.iter_mut().for_each(|offset| *offset += START);
+    list
+}
+
+/// A sparse table of one offset a word, which goes back to the start when a bitmap would pass the
+/// image's end.
 fn sparse_turns(class: u32, records: usize) -> Vec<u8> {
     let mut rng = Rng::new(SEED);
     let turn = 1 + (records - 1) / window(class) as usize;
     let mut bitmap = || 1 | 2 << rng.below(window(class));
-    let words = (0..records).map(|index| if index % turn == 0 { 0 } else { bitmap() });
+    let words = (0..records).map(|index| if index % turn == 0 { START } else { bitmap() });
     relr_bytes(class, &words.collect::<Vec<_>>())
 }
 

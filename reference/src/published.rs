@@ -1,6 +1,6 @@
 //! What crate `cases` must print: the published LEB128 examples, each edge of
-//! document 01's table of last bytes, its cases K to N, and bad input. Every
-//! answer is that of the calls here.
+//! document 01's table of last bytes, its cases J to N, images with a start, and
+//! bad input. Every answer is that of the calls here.
 
 use crate::corpus::hand_relr::{OUT4, OUT8, TOP4, TOP8};
 use crate::corpus::tables::{join, number, relr_bytes};
@@ -157,28 +157,37 @@ fn read_bytes(class: u32, table: &[u8]) -> String {
     format!("relr read class {class}:{}{answer} {first} {second}\n", hex(table))
 }
 
-/// Cases J and N, words that overlap, and bad input.
+/// Cases J and N, words that overlap, and bad input; then images that start
+/// elsewhere than at 0.
 fn applies() -> String {
     [
-        apply(8, &[0], 1),
-        apply(8, &[2], 1),
-        apply(4, &[0, 3], 2),
-        apply(4, &[0, 2], 1),
-        apply(4, &[0], 1 << 32),
-        apply(4, &[6, OUT4], 1),
-        apply(8, &[], u64::MAX),
-        apply(0, &[], 0),
+        apply(8, &[0], 1, 0),
+        apply(8, &[2], 1, 0),
+        apply(4, &[0, 3], 2, 0),
+        apply(4, &[0, 2], 1, 0),
+        apply(4, &[0], 1 << 32, 0),
+        apply(4, &[6, OUT4], 1, 0),
+        apply(8, &[], u64::MAX, 0),
+        apply(0, &[], 0, 0),
+        apply(8, &[0x1000], 1, 0x1000),
+        apply(4, &[0x1000, 3], 2, 0x1000),
+        apply(8, &[0xFFE], 1, 0x1000),
+        apply(4, &[0x1004], 1, 0x1000),
+        apply(4, &[0x1006], 1, 0x1000),
+        apply(8, &[TOP8], 1, TOP8),
+        apply(4, &[0], 1, u64::MAX),
+        apply(8, &[], 1, u64::MAX),
     ]
     .concat()
 }
 
 /// A table applied to eight bytes FF.
-fn apply(class: u32, words: &[u64], base: u64) -> String {
+fn apply(class: u32, words: &[u64], base: u64, start: u64) -> String {
     let table = relr_bytes(class, words);
     let mut image = [0xFF; 8];
-    let answer = full(relr_apply(class, &table, base, &mut image));
+    let answer = full(relr_apply(class, &table, base, start, &mut image));
     let (table, image) = (hex(&table), hex(&image));
-    format!("relr apply class {class} base {base}:{table}{answer} image{image}\n")
+    format!("relr apply class {class} base {base} start {start}:{table}{answer} image{image}\n")
 }
 
 /// Room and none, the top of the space, and bad input.

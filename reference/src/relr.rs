@@ -153,14 +153,20 @@ fn bit_of(class: &Class, start: u128, offset: u64) -> Option<u32> {
 
 /// Order: 1, 15, 2, RELR length, then the first fault along the stream, then
 /// 12.
-pub fn relr_apply(class: u32, table: &[u8], base: u64, image: &mut [u8]) -> Answer {
-    match patched(class, table, base, image) {
+pub fn relr_apply(class: u32, table: &[u8], base: u64, start: u64, image: &mut [u8]) -> Answer {
+    match patched(class, table, base, start, image) {
         Ok(count) => Answer::done(count),
         Err(refusal) => refusal,
     }
 }
 
-fn patched(class: u32, table: &[u8], base: u64, image: &mut [u8]) -> Result<usize, Answer> {
+fn patched(
+    class: u32,
+    table: &[u8],
+    base: u64,
+    start: u64,
+    image: &mut [u8],
+) -> Result<usize, Answer> {
     let class = Class::of(class)?;
     // "15: apply, class 4: base above 2^32−1", place 0
     if class.bits == 32 && base > u32::MAX as u64 {
@@ -170,15 +176,24 @@ fn patched(class: u32, table: &[u8], base: u64, image: &mut [u8]) -> Result<usiz
     // "12: apply: word ends outside the image", at the "index in the list";
     // every offset is looked at before any word is patched
     for (index, &offset) in list.iter().enumerate() {
-        if offset as u128 + class.bytes as u128 > image.len() as u128 {
+        if !inside(&class, offset, start, image.len()) {
             return Err(Answer::refused(12, index));
         }
     }
     for &offset in &list {
-        let at = offset as usize;
+        // "Offset minus start is the index", by document 02.
+        let at = (offset - start) as usize;
         add(base, &mut image[at..at + class.bytes]);
     }
     Ok(list.len())
+}
+
+/// "an offset below the start, or with its word ending beyond the image, is
+/// 12", by document 02; the sums are whole numbers and don't wrap.
+fn inside(class: &Class, offset: u64, start: u64, length: usize) -> bool {
+    let word_end = offset as u128 + class.bytes as u128;
+    let image_end = start as u128 + length as u128;
+    offset >= start && word_end <= image_end
 }
 
 /// "the word there becomes itself plus base, reduced modulo 2^W"

@@ -166,7 +166,7 @@ fn one_case_byte_by_byte() {
 /// Cases with each setting set, and with all.
 fn with_settings() -> [Case; 5] {
     let case = || Case::read_into(APR1_READ, 0, b"APR1\0\0", 1);
-    let apply = Case::apply(8, &[0; 8], u64::MAX - 1, &[7; 9]);
+    let apply = Case::apply(8, &[0; 8], u64::MAX - 1, 0, &[7; 9]);
     [
         Case { big: true, ..case() },
         Case { strict: true, ..case() },

@@ -60,10 +60,12 @@ fn input_over_its_length() {
     assert_eq!(relr_read(8, &long, &mut []), two);
     assert_eq!(relr_read(4, &long[..], &mut [0; 9]), two);
     assert_eq!(relr_read(5, &long, &mut []), answer(1, 0, 0));
-    assert_eq!(relr_apply(8, &long, 1 << 40, &mut []), two);
-    assert_eq!(relr_apply(4, &long, 1, &mut []), two);
-    assert_eq!(relr_apply(4, &long, 1 << 40, &mut []), answer(15, 0, 0));
-    assert_eq!(relr_apply(9, &long, 1 << 40, &mut []), answer(1, 0, 0));
+    assert_eq!(relr_apply(8, &long, 1 << 40, 0, &mut []), two);
+    assert_eq!(relr_apply(4, &long, 1, 0, &mut []), two);
+    assert_eq!(relr_apply(4, &long, 1 << 40, 0, &mut []), answer(15, 0, 0));
+    assert_eq!(relr_apply(9, &long, 1 << 40, 0, &mut []), answer(1, 0, 0));
+    assert_eq!(relr_apply(4, &long, 1, u64::MAX, &mut []), two);
+    assert_eq!(relr_apply(4, &long, 1 << 40, u64::MAX, &mut []), answer(15, 0, 0));
     assert_eq!(apr1_read(&long, &mut []), two);
     assert_eq!(apa1_read(&long, &mut [0; 2], &mut [0; 2]), two);
     assert_eq!(apa1_read(&long, &mut [0; 2], &mut [0; 3]), answer(11, 0, 0));
@@ -81,7 +83,8 @@ fn input_at_its_length() {
     let full = vec![0; MOST_INPUT];
     assert_eq!(relr_read(8, &full, &mut []), answer(9, 0, MOST_INPUT as u64 / 8));
     assert_eq!(relr_read(4, &full, &mut []), answer(9, 0, MOST_INPUT as u64 / 4));
-    assert_eq!(relr_apply(4, &full, 0, &mut []), answer(12, 0, 0));
+    assert_eq!(relr_apply(4, &full, 0, 0, &mut []), answer(12, 0, 0));
+    assert_eq!(relr_apply(8, &full, 0, 1, &mut [0; 9]), answer(12, 0, 0));
     assert_eq!(apr1_read(&full, &mut []), answer(3, 0, 0));
     assert_eq!(apa1_read(&full, &mut [], &mut []), answer(3, 0, 0));
     let answered = relleb_read(8, &full, &mut [], &mut [], &mut [], &mut []);

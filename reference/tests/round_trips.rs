@@ -2,9 +2,10 @@
 
 use reference::corpus::rng::Rng;
 use reference::{
-    apa1_read, apa1_write, apr1_read, apr1_write, relleb_read, relleb_write, relr_apply, relr_read,
-    relr_write,
+    Answer, apa1_read, apa1_write, apr1_read, apr1_write, relleb_read, relleb_write, relr_apply,
+    relr_read, relr_write,
 };
+use std::collections::BTreeMap;
 
 const ROUNDS: usize = 2_000;
 
@@ -31,7 +32,7 @@ fn rising(rng: &mut Rng, step: u64, last: u64) -> Vec<u64> {
 
 /// Writes with no room, with one byte short, and with exact room; gives the
 /// table.
-fn made(write: impl Fn(&mut [u8]) -> reference::Answer) -> Vec<u8> {
+fn made(write: impl Fn(&mut [u8]) -> Answer) -> Vec<u8> {
     let need = write(&mut vec![0; 9_999]);
     assert_eq!((need.number, need.place), (0, 0));
     let count = need.count as usize;
@@ -139,30 +140,110 @@ fn apply_follows_read() {
 }
 
 fn apply_once(rng: &mut Rng, class: u32) {
-    let size = class as usize;
-    let mut table = Vec::new();
-    for _ in 0..1 + rng.below(6) {
-        let address = rng.below(30) * 2;
-        let bitmap = rng.below(64) * 2 + 1;
-        table.extend_from_slice(&address.to_le_bytes()[..size]);
-        table.extend_from_slice(&bitmap.to_le_bytes()[..size]);
-    }
-    let base = rng.draw() >> (64 - 8 * size);
+    let table = table_from(rng, class, 0);
+    let base = rng.draw() >> (64 - 8 * class);
     let before: Vec<u8> = (0..130).map(|_| rng.draw() as u8).collect();
-    let mut list = vec![0; 999];
-    let read = relr_read(class, &table, &mut list);
+    let (read, list) = list_of(class, &table);
     let mut want = before.clone();
-    for &offset in &list[..read.count as usize] {
-        let word = &mut want[offset as usize..offset as usize + size];
-        if class == 4 {
-            let sum = u32::from_le_bytes(word.try_into().unwrap()).wrapping_add(base as u32);
-            word.copy_from_slice(&sum.to_le_bytes());
-        } else {
-            let sum = u64::from_le_bytes(word.try_into().unwrap()).wrapping_add(base);
-            word.copy_from_slice(&sum.to_le_bytes());
-        }
+    for offset in list {
+        add(class, base, &mut want[offset as usize..]);
     }
     let mut image = before;
-    assert_eq!(relr_apply(class, &table, base, &mut image), read);
+    assert_eq!(relr_apply(class, &table, base, 0, &mut image), read);
     assert_eq!(image, want);
+}
+
+/// Addresses from `first` on, each with a bitmap behind it, for 130 bytes.
+fn table_from(rng: &mut Rng, class: u32, first: u64) -> Vec<u8> {
+    let mut table = Vec::new();
+    for _ in 0..1 + rng.below(6) {
+        let address = first + rng.below(30) * 2;
+        let bitmap = rng.below(64) * 2 + 1;
+        table.extend_from_slice(&address.to_le_bytes()[..class as usize]);
+        table.extend_from_slice(&bitmap.to_le_bytes()[..class as usize]);
+    }
+    table
+}
+
+/// What reading a table answers, and its list.
+fn list_of(class: u32, table: &[u8]) -> (Answer, Vec<u64>) {
+    let mut list = vec![0; 999];
+    let read = relr_read(class, table, &mut list);
+    assert_eq!(read.number, 0);
+    list.truncate(read.count as usize);
+    (read, list)
+}
+
+/// Adds the base to the first word of some bytes.
+fn add(class: u32, base: u64, bytes: &mut [u8]) {
+    if class == 4 {
+        let word = &mut bytes[..4];
+        let sum = u32::from_le_bytes(word.try_into().unwrap()).wrapping_add(base as u32);
+        word.copy_from_slice(&sum.to_le_bytes());
+    } else {
+        let word = &mut bytes[..8];
+        let sum = u64::from_le_bytes(word.try_into().unwrap()).wrapping_add(base);
+        word.copy_from_slice(&sum.to_le_bytes());
+    }
+}
+
+/// Applying with a start does as a map from addresses to bytes does.
+#[test]
+fn apply_with_a_start() {
+    let mut rng = Rng::new(16);
+    let mut seen = [0; 2];
+    for _ in 0..ROUNDS {
+        for class in [4, 8] {
+            let accepted = apply_from(&mut rng, class);
+            seen[accepted as usize] += 1;
+        }
+    }
+    assert!(seen.iter().all(|times| *times > ROUNDS / 2), "{seen:?}");
+}
+
+/// A table anywhere in the space, and an image about it; whether every word lies
+/// inside.
+fn apply_from(rng: &mut Rng, class: u32) -> bool {
+    let top = u64::MAX >> (64 - 8 * class);
+    let anywhere = rng.any_size() & (top / 2);
+    let first = rng.pick(&[0, 0x1000, top - 129, anywhere]) & !1;
+    let table = table_from(rng, class, first);
+    let (read, list) = list_of(class, &table);
+    let least = *list.iter().min().unwrap();
+    let start = match rng.below(4) {
+        0 => least.saturating_sub(rng.below(9)),
+        1 | 2 => least.saturating_add(rng.below(3)),
+        _ => least,
+    };
+    let short = 130 - rng.index(80);
+    let length = rng.pick(&[130, 130, short, 200]);
+    let base = rng.draw() >> (64 - 8 * class);
+    let before: Vec<u8> = (0..length).map(|_| rng.draw() as u8).collect();
+    let mut image = before.clone();
+    let answer = relr_apply(class, &table, base, start, &mut image);
+    let (want, after) = match mapped(class, &list, base, start, &before) {
+        Ok(after) => (read, after),
+        Err(index) => (Answer { number: 12, place: index as u64, count: 0 }, before),
+    };
+    assert_eq!(answer, want);
+    assert_eq!(image, after);
+    want.number == 0
+}
+
+/// The image as a map from addresses to bytes: a word is inside when the map has
+/// each of its addresses. What is left of the image, or the index of the first
+/// offset whose word is not inside.
+fn mapped(class: u32, list: &[u64], base: u64, start: u64, image: &[u8]) -> Result<Vec<u8>, usize> {
+    let mut map: BTreeMap<u128, u8> = (start as u128..).zip(image.iter().copied()).collect();
+    let addresses = |offset: &u64| *offset as u128..*offset as u128 + class as u128;
+    let has = |offset| addresses(offset).all(|at| map.contains_key(&at));
+    if let Some(index) = list.iter().position(|offset| !has(offset)) {
+        return Err(index);
+    }
+    for offset in list {
+        let mut word: Vec<u8> = addresses(offset).map(|at| map[&at]).collect();
+        add(class, base, &mut word);
+        map.extend(addresses(offset).zip(word));
+    }
+    Ok(map.into_values().collect())
 }

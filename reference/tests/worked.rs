@@ -95,7 +95,7 @@ fn p_relleb() {
 #[test]
 fn j_apply() {
     let mut image = [0xFF; 8];
-    assert_eq!(relr_apply(8, &bytes(8, &[0]), 1, &mut image), done(1));
+    assert_eq!(relr_apply(8, &bytes(8, &[0]), 1, 0, &mut image), done(1));
     assert_eq!(image, [0; 8]);
 }
 
@@ -131,10 +131,61 @@ fn m_bitmap_alone() {
 #[test]
 fn n_word_inside_the_image() {
     let mut image = [0; 8];
-    assert_eq!(relr_apply(8, &bytes(8, &[0]), 1, &mut image), done(1));
+    assert_eq!(relr_apply(8, &bytes(8, &[0]), 1, 0, &mut image), done(1));
     assert_eq!(image, [1, 0, 0, 0, 0, 0, 0, 0]);
-    assert_eq!(relr_apply(8, &bytes(8, &[2]), 1, &mut image), refused(12, 0));
+    assert_eq!(relr_apply(8, &bytes(8, &[2]), 1, 0, &mut image), refused(12, 0));
     assert_eq!(image, [1, 0, 0, 0, 0, 0, 0, 0]);
+}
+
+/// Applies words to eight bytes FF; the answer, and what is left of them.
+fn applied(class: u32, words: &[u64], start: u64) -> (Answer, [u8; 8]) {
+    let mut image = [0xFF; 8];
+    (relr_apply(class, &bytes(class, words), 1, start, &mut image), image)
+}
+
+/// "Offset minus start is the index; an offset below the start, or with its word
+/// ending beyond the image, is 12."
+#[test]
+fn image_with_a_start() {
+    let untouched = |number, place| (refused(number, place), [0xFF; 8]);
+    let last = [0xFF, 0xFF, 0xFF, 0xFF, 0, 0, 0, 0];
+    assert_eq!(applied(8, &[0x1000], 0x1000), (done(1), [0; 8]));
+    assert_eq!(applied(4, &[0x1000, 3], 0x1000), (done(2), [0; 8]));
+    assert_eq!(applied(4, &[0x1004], 0x1000), (done(1), last));
+    assert_eq!(applied(8, &[0xFFE], 0x1000), untouched(12, 0));
+    assert_eq!(applied(4, &[0x1000, 0xFFE], 0x1000), untouched(12, 1));
+    assert_eq!(applied(8, &[0x1002], 0x1000), untouched(12, 0));
+    assert_eq!(applied(4, &[0x1006], 0x1000), untouched(12, 0));
+    assert_eq!(applied(4, &[0x1000, 0x1008], 0x1000), untouched(12, 1));
+    assert_eq!(applied(8, &[0], 0x1000), untouched(12, 0));
+}
+
+/// The first of the list that is outside gives the place, however it is outside.
+#[test]
+fn first_outside_either_end() {
+    let place = |words: &[u64]| applied(4, words, 0x1000).0;
+    assert_eq!(place(&[0x1000, 0x1008, 0xFFE]), refused(12, 1));
+    assert_eq!(place(&[0x1000, 0xFFE, 0x1008]), refused(12, 1));
+    assert_eq!(place(&[0x1000, 7, 0xFFE]), refused(12, 2));
+    assert_eq!(place(&[0x1000, 3, 0xFFE, 0x1008]), refused(12, 2));
+}
+
+/// The start is any number, and no sum wraps.
+#[test]
+fn starts_at_the_top() {
+    let top = u64::MAX - 7;
+    assert_eq!(applied(8, &[top], top), (done(1), [0; 8]));
+    assert_eq!(applied(8, &[top], top + 1), (refused(12, 0), [0xFF; 8]));
+    assert_eq!(applied(8, &[top], top - 1), (refused(12, 0), [0xFF; 8]));
+    let mut image = [0; 64];
+    assert_eq!(relr_apply(8, &bytes(8, &[top]), 5, top - 8, &mut image), done(1));
+    assert_eq!((image[8], image.iter().filter(|byte| **byte != 0).count()), (5, 1));
+    assert_eq!(relr_apply(8, &bytes(8, &[0]), 5, top - 8, &mut image), refused(12, 0));
+    for start in [1 << 32, u64::MAX] {
+        assert_eq!(applied(4, &[0], start), (refused(12, 0), [0xFF; 8]));
+        assert_eq!(applied(4, &[], start), (done(0), [0xFF; 8]));
+        assert_eq!(applied(8, &[], start), (done(0), [0xFF; 8]));
+    }
 }
 
 #[test]
@@ -149,16 +200,16 @@ fn relr_where_grows_by_the_window() {
 #[test]
 fn apply_order_counts() {
     let mut up = [0; 6];
-    assert_eq!(relr_apply(4, &bytes(4, &[0, 2]), 0x1_FFFF, &mut up), done(2));
+    assert_eq!(relr_apply(4, &bytes(4, &[0, 2]), 0x1_FFFF, 0, &mut up), done(2));
     assert_eq!(up, [0xFF, 0xFF, 0, 0, 2, 0]);
     let mut down = [0; 6];
-    assert_eq!(relr_apply(4, &bytes(4, &[2, 0]), 0x1_FFFF, &mut down), done(2));
+    assert_eq!(relr_apply(4, &bytes(4, &[2, 0]), 0x1_FFFF, 0, &mut down), done(2));
     assert_eq!(down, [0xFF, 0xFF, 0, 0, 1, 0]);
     let mut twice = [7, 0xFF, 0xFF, 0xFF, 0xFF, 9];
-    assert_eq!(relr_apply(4, &bytes(4, &[0, 0]), 0x8000_0000, &mut twice), done(2));
+    assert_eq!(relr_apply(4, &bytes(4, &[0, 0]), 0x8000_0000, 0, &mut twice), done(2));
     assert_eq!(twice, [7, 0xFF, 0xFF, 0xFF, 0xFF, 9]);
     let mut inside = [0xFF; 12];
-    assert_eq!(relr_apply(4, &bytes(4, &[4]), 1, &mut inside), done(1));
+    assert_eq!(relr_apply(4, &bytes(4, &[4]), 1, 0, &mut inside), done(1));
     assert_eq!(inside, [0xFF, 0xFF, 0xFF, 0xFF, 0, 0, 0, 0, 0xFF, 0xFF, 0xFF, 0xFF]);
 }
 

@@ -49,6 +49,7 @@ unsafe extern "C" {
         table: *const u8,
         table_len: usize,
         base: u64,
+        start: u64,
         image: *mut u8,
         image_len: usize,
     ) -> Answer;

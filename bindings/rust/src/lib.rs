@@ -39,7 +39,7 @@ mod refusal;
 pub use refusal::{Kind, Refusal};
 
 /// The version of this wrapper: major × 1,000,000 + minor × 1,000 + patch.
-pub const VERSION: u32 = 4_000;
+pub const VERSION: u32 = 5_000;
 
 /// The longest table that is read or applied, in bytes.
 pub const INPUT_LIMIT: usize = 134_217_728;
@@ -108,18 +108,41 @@ pub fn relr_write(class: u32, offsets: &[u64], table: &mut [u8]) -> Result<usize
 }
 
 /// Adds `base` to the image's word at each offset of a RELR table, in order,
-/// wrapping at W bits. An offset is an index into the image.
+/// wrapping at W bits.
+///
+/// `start` is the address of the image's first byte, such as the one that a
+/// module's first segment is linked at: an offset minus `start` is an index into
+/// the image. A word lies inside the image exactly when `start <= offset` and
+/// `offset - start + class <= image.len()`, as whole numbers: `start` is any
+/// number, and nothing wraps.
 ///
 /// Refuses [`Kind::Class`], [`Kind::Base`], [`Kind::Limit`], [`Kind::Missing`],
 /// then the first of [`Kind::Order`] and [`Kind::Space`] along the table, then
 /// [`Kind::Outside`].
-pub fn relr_apply(class: u32, table: &[u8], base: u64, image: &mut [u8]) -> Result<usize, Refusal> {
+///
+/// ```
+/// use reloc::relr_apply;
+///
+/// // The addresses 0x1000 and 0x1008, of a module that is linked at 0x1000.
+/// let table = [0x1000u64.to_le_bytes(), 0x1008u64.to_le_bytes()].concat();
+/// let mut image = [0; 16];
+/// assert_eq!(relr_apply(8, &table, 5, 0x1000, &mut image), Ok(2));
+/// assert_eq!((image[0], image[8]), (5, 5));
+/// ```
+pub fn relr_apply(
+    class: u32,
+    table: &[u8],
+    base: u64,
+    start: u64,
+    image: &mut [u8],
+) -> Result<usize, Refusal> {
     unsafe {
         ffi::reloc_relr_apply(
             class,
             table.as_ptr(),
             table.len(),
             base,
+            start,
             image.as_mut_ptr(),
             image.len(),
         )

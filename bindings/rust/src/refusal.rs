@@ -43,8 +43,9 @@ pub enum Kind {
     Odd,
     /// 11: columns of different lengths.
     Columns,
-    /// 12: apply: a word ends outside the image. Place: the index in the list
-    /// that the table decodes to.
+    /// 12: apply: a word does not lie inside the image: its offset is below the
+    /// start, or it ends beyond the image. Place: the index in the list that the
+    /// table decodes to.
     Outside,
     /// 13: APR1 write: an empty list.
     Empty,
@@ -94,7 +95,7 @@ impl fmt::Display for Kind {
             Kind::Room => "too little room",
             Kind::Odd => "odd offset",
             Kind::Columns => "columns of different lengths",
-            Kind::Outside => "word ends outside the image",
+            Kind::Outside => "word not inside the image",
             Kind::Empty => "empty list",
             Kind::Addend => "addend outside signed 32 bits",
             Kind::Base => "base above 2^32 - 1",

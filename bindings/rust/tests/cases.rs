@@ -96,9 +96,9 @@ fn p() {
 #[test]
 fn j() {
     let mut image = [0xFF; 8];
-    assert_eq!(relr_apply(8, &[0; 8], 1, &mut image), Ok(1));
+    assert_eq!(relr_apply(8, &[0; 8], 1, 0, &mut image), Ok(1));
     assert_eq!(image, [0; 8]);
-    assert_eq!(relr_apply(4, &[0; 4], 1 << 32, &mut image), refused(15, 0));
+    assert_eq!(relr_apply(4, &[0; 4], 1 << 32, 0, &mut image), refused(15, 0));
 }
 
 #[test]
@@ -126,9 +126,50 @@ fn m() {
 #[test]
 fn n() {
     let mut image = [0; 8];
-    assert_eq!(relr_apply(8, &0u64.to_le_bytes(), 1, &mut image), Ok(1));
-    assert_eq!(relr_apply(8, &2u64.to_le_bytes(), 1, &mut image), refused(12, 0));
+    assert_eq!(relr_apply(8, &0u64.to_le_bytes(), 1, 0, &mut image), Ok(1));
+    assert_eq!(relr_apply(8, &2u64.to_le_bytes(), 1, 0, &mut image), refused(12, 0));
     assert_eq!(image, [1, 0, 0, 0, 0, 0, 0, 0]);
+}
+
+/// Applies words to eight bytes FF; the answer, and what is left of them.
+fn applied(class: u32, words: &[u64], start: u64) -> (Result<usize, Refusal>, [u8; 8]) {
+    let mut image = [0xFF; 8];
+    (relr_apply(class, &bytes(class, words), 1, start, &mut image), image)
+}
+
+/// An offset minus the start is the index into the image.
+#[test]
+fn the_start_of_an_image() {
+    assert_eq!(applied(8, &[0x1000], 0x1000), (Ok(1), [0; 8]));
+    assert_eq!(applied(4, &[0x1000, 3], 0x1000), (Ok(2), [0; 8]));
+    assert_eq!(applied(4, &[0x1004], 0x1000), (Ok(1), [0xFF, 0xFF, 0xFF, 0xFF, 0, 0, 0, 0]));
+    assert_eq!(applied(4, &[2], 1), (Ok(1), [0xFF, 0, 0, 0, 0, 0xFF, 0xFF, 0xFF]));
+    let top = u64::MAX - 7;
+    assert_eq!(applied(8, &[top], top), (Ok(1), [0; 8]));
+    for start in [0x1000, 1 << 32, u64::MAX] {
+        assert_eq!(applied(4, &[], start), (Ok(0), [0xFF; 8]));
+    }
+}
+
+/// Below the start or beyond the image: the first such offset is the place.
+#[test]
+fn outside_an_image_with_a_start() {
+    let cases: [(u32, &[u64], u64, u64); 10] = [
+        (8, &[0xFFE], 0x1000, 0),
+        (8, &[0x1002], 0x1000, 0),
+        (4, &[0x1006], 0x1000, 0),
+        (4, &[0], 0x1000, 0),
+        (4, &[0x1000, 0xFFE, 0x1008], 0x1000, 1),
+        (4, &[0x1000, 0x1008, 0xFFE], 0x1000, 1),
+        (4, &[0x1000, 0xF], 0x1000, 2),
+        (4, &[0], 1 << 32, 0),
+        (4, &[0], u64::MAX, 0),
+        (8, &[u64::MAX - 7, 0], u64::MAX - 7, 1),
+    ];
+    for (class, words, start, place) in cases {
+        let want = (refused(12, place), [0xFF; 8]);
+        assert_eq!(applied(class, words, start), want, "class {class} {words:x?} {start:#x}");
+    }
 }
 
 /// The place of a 5 is the byte that makes the number leave its width.
@@ -147,4 +188,6 @@ fn a_refusal_tells_its_kind() {
     assert_eq!(refusal.to_string(), "refused 10 at 1: odd offset");
     let refusal = relr_write(8, &[4], &mut []).unwrap_err();
     assert_eq!(refusal.to_string(), "refused 9 at 0: too little room, 8 needed");
+    let refusal = relr_apply(8, &[0; 8], 0, 1, &mut [0; 16]).unwrap_err();
+    assert_eq!(refusal.to_string(), "refused 12 at 0: word not inside the image");
 }

@@ -34,10 +34,11 @@ fn each_number_has_its_name() {
         (9, Kind::Room, relr_read(8, &[0; 8], &mut [])),
         (10, Kind::Odd, relr_write(8, &[1], &mut [])),
         (11, Kind::Columns, apa1_read(&[], &mut [0], &mut [])),
-        (12, Kind::Outside, relr_apply(8, &[0; 8], 0, &mut [0; 7])),
+        (12, Kind::Outside, relr_apply(8, &[0; 8], 0, 0, &mut [0; 7])),
+        (12, Kind::Outside, relr_apply(8, &[0; 8], 0, 1, &mut [0; 16])),
         (13, Kind::Empty, apr1_write(&[], &mut [])),
         (14, Kind::Addend, relleb_write(4, &[0], &[0], &[0], &[1 << 31], &mut [])),
-        (15, Kind::Base, relr_apply(4, &[], 1 << 32, &mut [])),
+        (15, Kind::Base, relr_apply(4, &[], 1 << 32, 0, &mut [])),
     ];
     for (number, kind, answer) in refused {
         let refusal = answer.unwrap_err();
@@ -52,7 +53,7 @@ fn beyond(over: usize) -> Vec<Answer> {
     let a = vec![0; LIST_LIMIT + over];
     vec![
         relr_read(8, &table, &mut []),
-        relr_apply(8, &table, 0, &mut []),
+        relr_apply(8, &table, 0, 0, &mut []),
         apr1_read(&table, &mut []),
         apa1_read(&table, &mut [], &mut []),
         relleb_read(8, &table, &mut [], &mut [], &mut [], &mut []),

@@ -68,6 +68,12 @@ impl Build<'_> {
             0 => self.table(RELR_READ, class, size),
             _ => self.low_table(class, size.min(30)),
         };
+        if self.edge(2) {
+            self.raise(class, &mut table);
+        }
+        if self.edge(12) {
+            table.clear();
+        }
         if kind == 2 {
             self.damage(RELR_READ, class, &mut table);
         }
@@ -78,9 +84,52 @@ impl Build<'_> {
         case
     }
 
-    /// The applying of a table to some image with some base.
+    /// The applying of a table to some image with some base. Among the edges the
+    /// image has some start, otherwise it starts at 0.
     pub fn applied(&mut self, class: u32, table: &[u8]) -> Case {
-        let image = self.image(class, table);
+        if self.edges {
+            return self.applied_anywhere(class, table);
+        }
+        // Eight bytes for the last word, whatever the class.
+        let image = self.image(self.reach(&list_of(class, table), 0, 8));
+        self.based(class, table, 0, &image)
+    }
+
+    /// The applying of a table that lies anywhere to a small image.
+    pub fn apply_anywhere(&mut self, class: u32, size: usize) -> Case {
+        let mut table = self.low_table(class, size);
+        self.raise(class, &mut table);
+        self.applied_anywhere(class, &table)
+    }
+
+    /// The applying of a table to some image with some base and some start.
+    fn applied_anywhere(&mut self, class: u32, table: &[u8]) -> Case {
+        let list = list_of(class, table);
+        let start = self.start(class, &list);
+        let image = self.image(self.reach(&list, start, class as u64));
+        self.based(class, table, start, &image)
+    }
+
+    /// A start of an image for a list: 0, small, at the lowest offset or about it,
+    /// about any offset, about 2^32 or about the largest number.
+    fn start(&mut self, class: u32, list: &[u64]) -> u64 {
+        let least = list.iter().copied().min().unwrap_or(0);
+        let some = if list.is_empty() { 0 } else { self.rng.pick(list) };
+        match self.rng.below(16) {
+            0 | 1 => 0,
+            2..=6 => least,
+            7..=9 => least.saturating_sub(1 + self.rng.below(16)),
+            10 => least.saturating_add(1),
+            11 => least.saturating_add(1 + self.rng.below(class as u64)),
+            12 => some.saturating_add(self.rng.below(3)),
+            13 => self.rng.below(16),
+            14 => (1 << 32) - 8 + self.rng.below(16),
+            _ => u64::MAX - self.rng.below(24),
+        }
+    }
+
+    /// The applying of a table with some base.
+    fn based(&mut self, class: u32, table: &[u8], start: u64, image: &[u8]) -> Case {
         let base = match self.arm(8, 3) {
             0 => self.rng.draw(),
             1 => u64::MAX,
@@ -89,23 +138,27 @@ impl Build<'_> {
             9 | 10 => self.about(32),
             _ => self.rng.any_size() & u32::MAX as u64,
         };
-        Case::apply(class, table, base, &image)
+        Case::apply(class, table, base, start, image)
     }
 
-    /// An image that mostly holds every word of the table, sometimes exactly,
-    /// sometimes not quite.
-    fn image(&mut self, class: u32, table: &[u8]) -> Vec<u8> {
-        let read = |room| Case::read_into(RELR_READ, class, table, room);
-        let (answer, after) = read(need(&read(0))).run();
-        let top = after.offsets.iter().max().filter(|_| answer.number == 0);
-        let (word, most) = if self.edges { (class as u64, 10_000) } else { (8, 2_000) };
-        let end = top.map_or(0, |top| top.saturating_add(word));
-        let end = if end > most { 64 } else { end as usize };
-        let length = match self.arm(6, 1) {
+    /// The bytes of an image from its start to the end of the list's highest word,
+    /// or a few where they would be many.
+    fn reach(&self, list: &[u64], start: u64, word: u64) -> usize {
+        let most = if self.edges { 10_000 } else { 2_000 };
+        let end = list.iter().max().map_or(0, |top| *top as u128 + word as u128);
+        let reach = end.saturating_sub(start as u128);
+        if reach > most { 64 } else { reach as usize }
+    }
+
+    /// An image for words that end so many bytes behind its start: mostly it holds
+    /// them all, sometimes exactly, sometimes not quite.
+    fn image(&mut self, end: usize) -> Vec<u8> {
+        let length = match self.arm(6, 4) {
             0 => end.saturating_sub(1 + self.rng.index(12)),
             1 => self.rng.index(end + 1),
             2 => end + self.rng.index(20),
             6 => end.saturating_sub(1),
+            7.. => end + self.rng.index(2_000),
             _ => end,
         };
         (0..length).map(|_| if self.edge(2) { 0xFF } else { self.rng.draw() as u8 }).collect()
@@ -218,6 +271,13 @@ impl Build<'_> {
         let number = power.wrapping_add(self.rng.below(4) as u128).wrapping_sub(2);
         number as u64 & (u64::MAX >> (64 - bits))
     }
+}
+
+/// The list of a RELR table; none where it is refused or has many offsets.
+fn list_of(class: u32, table: &[u8]) -> Vec<u64> {
+    let read = |room| Case::read_into(RELR_READ, class, table, room);
+    let (answer, after) = read(need(&read(0))).run();
+    if answer.number == 0 { after.offsets } else { Vec::new() }
 }
 
 /// What a call that is lent no room needs. A list over the most room is lent

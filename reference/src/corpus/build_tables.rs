@@ -67,6 +67,27 @@ impl Build<'_> {
         relr_bytes(class, &words)
     }
 
+    /// Moves the addresses of a RELR table up: a little, to anywhere, or to the top
+    /// of the space, where some go on at its bottom.
+    pub(super) fn raise(&mut self, class: u32, table: &mut [u8]) {
+        let end = u64::MAX >> (64 - 8 * class);
+        let by = match self.rng.below(4) {
+            0 => 0x1000,
+            1 => self.rng.below(0x1000),
+            2 => self.rng.any_size(),
+            _ => end - self.rng.below(0x600),
+        };
+        for bytes in table.chunks_exact_mut(class as usize) {
+            let mut word = [0; 8];
+            word[..bytes.len()].copy_from_slice(bytes);
+            let word = u64::from_le_bytes(word);
+            if word % 2 == 0 {
+                let raised = word.wrapping_add(by & !1);
+                bytes.copy_from_slice(&raised.to_le_bytes()[..bytes.len()]);
+            }
+        }
+    }
+
     /// A number of a table: sometimes padded; among the edges with any last
     /// byte.
     pub fn number(&mut self, kind: Kind, value: i128) -> Vec<u8> {

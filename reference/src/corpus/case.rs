@@ -95,9 +95,10 @@ impl Case {
         self
     }
 
-    pub fn apply(class: u32, table: &[u8], base: u64, image: &[u8]) -> Case {
+    pub fn apply(class: u32, table: &[u8], base: u64, start: u64, image: &[u8]) -> Case {
         Case {
             base,
+            start,
             input: table.to_vec(),
             bytes: image.to_vec(),
             ..Case::empty(RELR_APPLY, class)
@@ -137,7 +138,7 @@ impl Case {
         let answer = match self.call {
             RELR_READ => relr_read(c.class, &c.input, o),
             RELR_WRITE => relr_write(c.class, o, &mut c.bytes),
-            RELR_APPLY => relr_apply(c.class, &c.input, c.base, &mut c.bytes),
+            RELR_APPLY => relr_apply(c.class, &c.input, c.base, c.start, &mut c.bytes),
             APR1_READ => apr1_read(&c.input, o),
             APR1_WRITE => apr1_write(o, &mut c.bytes),
             APA1_READ => apa1_read(&c.input, o, a),

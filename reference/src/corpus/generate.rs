@@ -14,6 +14,9 @@ use crate::leb::Kind::{self, Signed, Unsigned};
 const SEED: u64 = 0x5245_4C52_2D32_3031;
 const ROUNDS: usize = 330;
 
+/// How many images with a start are drawn.
+const STARTS: usize = 120;
+
 /// The calls in the order of a round. A further call is drawn behind the rounds:
 /// among them it would change every case that follows.
 const ORDER: &[u8] = &[
@@ -74,6 +77,12 @@ pub fn generated() -> Vec<Named> {
         long_relr(build.rng, class, &mut cases);
     }
     long_apr1(&mut build, &mut cases);
+    for round in 0..STARTS {
+        let class = build.rng.pick(&[4, 8]);
+        let size = 1 + build.rng.index(12);
+        let name = format!("relr_apply start, generated {round}");
+        cases.push(Named { name, case: build.apply_anywhere(class, size) });
+    }
     cases
 }
 
@@ -101,7 +110,7 @@ fn long_relr(rng: &mut Rng, class: u32, cases: &mut Vec<Named>) {
     let table = &write.run().1.bytes;
     long_reads(RELR_READ, class, table, cases);
     let image: Vec<u8> = (0..3_008).map(|_| rng.draw() as u8).collect();
-    let apply = Case::apply(class, table, rng.draw() >> 32, &image);
+    let apply = Case::apply(class, table, rng.draw() >> 32, 0, &image);
     cases.push(Named { name: format!("relr_apply class {class} long"), case: apply });
     cases.push(Named { name: format!("relr_write class {class} long"), case: write });
 }

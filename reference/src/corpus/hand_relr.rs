@@ -11,6 +11,9 @@ pub const OUT4: u64 = 0xFFFF_FFFE;
 pub const TOP8: u64 = 0xFFFF_FFFF_FFFF_FFF8;
 pub const OUT8: u64 = 0xFFFF_FFFF_FFFF_FFFA;
 
+/// Where an image starts whose first segment is linked there.
+const LINKED: u64 = 0x1000;
+
 const BAD_CLASSES: [u32; 12] = [0, 1, 2, 3, 5, 6, 7, 9, 32, 64, 0x0100_0004, 0xFFFF_FFFF];
 
 fn read(class: u32, words: &[u64], room: usize) -> Case {
@@ -28,8 +31,19 @@ fn write(class: u32, offsets: &[u64], room: usize) -> Case {
     Case::write(RELR_WRITE, class, offsets, room)
 }
 
+/// An image that starts at 0.
 fn apply(class: u32, words: &[u64], base: u64, image: &[u8]) -> Case {
-    Case::apply(class, &relr_bytes(class, words), base, image)
+    Case::apply(class, &relr_bytes(class, words), base, 0, image)
+}
+
+/// An image that starts at an address.
+fn apply_at(class: u32, words: &[u64], start: u64, image: &[u8]) -> Case {
+    Case::apply(class, &relr_bytes(class, words), 0xFEDC_BA98, start, image)
+}
+
+/// An image of 64 bytes, no two of them equal.
+fn bytes64() -> Vec<u8> {
+    (0..64).map(|k| (k * 37 + 200) as u8).collect()
 }
 
 /// `count` offsets from `first` on, `gap` apart.
@@ -51,6 +65,7 @@ pub fn all() -> Vec<Hand> {
     hands.extend(apply_accepted());
     hands.extend(apply_refused());
     hands.extend(apply_order());
+    hands.extend([4, 8].into_iter().flat_map(apply_start));
     hands
 }
 
@@ -273,7 +288,7 @@ fn write_order() -> Vec<Hand> {
 
 fn apply_accepted() -> Vec<Hand> {
     let ff = [0xFF; 24];
-    let image: Vec<u8> = (0..64).map(|k| (k * 37 + 200) as u8).collect();
+    let image = bytes64();
     let all8 = u64::MAX;
     vec![
         hand("relr_apply J", apply(8, &[0], 1, &ff[..8]), (0, 0, 1)),
@@ -305,8 +320,8 @@ fn apply_refused() -> Vec<Hand> {
         let name = format!("relr_apply class {class}");
         hands.push(hand(&name, apply(class, &[0], 1, &image), (1, 0, 0)));
     }
-    let odd4 = Case::apply(4, &[0; 7], 1, &image);
-    let odd8 = Case::apply(8, &[0; 12], 1, &image);
+    let odd4 = Case::apply(4, &[0; 7], 1, 0, &image);
+    let odd8 = Case::apply(8, &[0; 12], 1, 0, &image);
     hands.extend([
         hand("relr_apply length 4", odd4, (4, 7, 0)),
         hand("relr_apply length 8", odd8, (4, 12, 0)),
@@ -339,9 +354,9 @@ fn apply_order() -> Vec<Hand> {
     let more = |class, word| {
         let mut table = relr_bytes(class, &[word]);
         table.push(0);
-        Case::apply(class, &table, 1, &image)
+        Case::apply(class, &table, 1, 0, &image)
     };
-    let odd = |class, base| Case::apply(class, &[1, 0, 0, 0, 0, 0, 0, 0, 0xFE], base, &[]);
+    let odd = |class, base| Case::apply(class, &[1, 0, 0, 0, 0, 0, 0, 0, 0xFE], base, 0, &[]);
     vec![
         hand("relr_apply 1 before 15", apply(5, &[0], big, &image), (1, 0, 0)),
         hand("relr_apply 1 before 4", odd(5, 1), (1, 0, 0)),
@@ -356,11 +371,154 @@ fn apply_order() -> Vec<Hand> {
         hand("relr_apply 4 before 6, class 8", odd(8, 1), (4, 9, 0)),
         hand("relr_apply 4 before 7", more(8, OUT8), (4, 9, 0)),
         hand("relr_apply 4 before 7, class 4", more(4, OUT4), (4, 5, 0)),
-        hand("relr_apply 4 before 12", Case::apply(4, &[0; 5], 1, &[]), (4, 5, 0)),
+        hand("relr_apply 4 before 12", Case::apply(4, &[0; 5], 1, 0, &[]), (4, 5, 0)),
         hand("relr_apply 6 before 7", apply(8, &[1, OUT8], 1, &image), (6, 0, 0)),
         hand("relr_apply 6 before 12", apply(8, &[3, 64], 1, &image), (6, 0, 0)),
         hand("relr_apply 7 before 12", apply(8, &[64, OUT8], 1, &image), (7, 8, 0)),
         hand("relr_apply 7 before 12, same", apply(4, &[OUT4], 1, &image), (7, 0, 0)),
         hand("relr_apply 7 before 12, bitmap", apply(4, &[TOP4, 3], 1, &image), (7, 4, 0)),
     ]
+}
+
+/// A class's cases of images that start elsewhere than at 0.
+fn apply_start(class: u32) -> Vec<Hand> {
+    let mut hands = Vec::new();
+    hands.extend(start_inside(class));
+    hands.extend(start_below(class));
+    hands.extend(start_beyond(class));
+    hands.extend(start_past(class));
+    hands.extend(start_top(class));
+    hands.extend(start_order(class));
+    for hand in &mut hands {
+        hand.name = format!("relr_apply start, class {class}: {}", hand.name);
+    }
+    hands
+}
+
+/// Words inside the image: at its first byte, at its last, and between.
+fn start_inside(class: u32) -> Vec<Hand> {
+    let (image, size, word) = (bytes64(), class as usize, class as u64);
+    let at = |words: &[u64], start, image: &[u8]| apply_at(class, words, start, image);
+    let last = LINKED + 64 - word;
+    let over = [LINKED + 2, LINKED, LINKED + 2];
+    vec![
+        hand("the first word", at(&[LINKED], LINKED, &image[..size]), (0, 0, 1)),
+        hand("the last word", at(&[last], LINKED, &image), (0, 0, 1)),
+        hand("address and bitmap", at(&[LINKED, 7], LINKED, &image[..3 * size]), (0, 0, 3)),
+        hand("goes back", at(&[last, LINKED, 3], LINKED, &image), (0, 0, 3)),
+        hand("words overlap", at(&over, LINKED, &image[..size + 2]), (0, 0, 3)),
+        hand("empty bitmaps past", at(&[LINKED, 1, 1], LINKED, &image[..size]), (0, 0, 1)),
+        hand("odd start", at(&[0x1002], 0x1001, &image[..size + 1]), (0, 0, 1)),
+        hand("half a word up", at(&[LINKED], LINKED - 2, &image[..size + 2]), (0, 0, 1)),
+        hand("start 1", at(&[2, 3], 1, &image[..2 * size + 1]), (0, 0, 2)),
+        hand("empty list", at(&[], LINKED, &image), (0, 0, 0)),
+        hand("empty list, no image", at(&[], LINKED, &[]), (0, 0, 0)),
+    ]
+}
+
+/// Offsets below the start.
+fn start_below(class: u32) -> Vec<Hand> {
+    let (image, word) = (bytes64(), class as u64);
+    let at = |words: &[u64], start| apply_at(class, words, start, &image);
+    let later = [LINKED + 2, LINKED + 2 + word, LINKED];
+    vec![
+        hand("two below", at(&[LINKED], LINKED + 2), (12, 0, 0)),
+        hand("one below", at(&[LINKED], LINKED + 1), (12, 0, 0)),
+        hand("one below, odd start", at(&[0x1002], 0x1003), (12, 0, 0)),
+        hand("a word below", at(&[LINKED - word], LINKED), (12, 0, 0)),
+        hand("two below, later", at(&later, LINKED + 2), (12, 2, 0)),
+        hand("below, then inside", at(&[LINKED, 7], LINKED + word), (12, 0, 0)),
+        hand("below behind a bitmap", at(&[LINKED, 7, LINKED - 2], LINKED), (12, 3, 0)),
+        hand("below behind empty bitmaps", at(&[LINKED, 1, 1, 0], LINKED), (12, 1, 0)),
+        hand("an index is no offset", at(&[0x10], LINKED), (12, 0, 0)),
+        hand("start above all", at(&[LINKED, 0x1F, 0x1800], 2 * LINKED), (12, 0, 0)),
+        hand("start above the last", at(&[LINKED, 3], LINKED + word + 1), (12, 0, 0)),
+        hand("below, then beyond", at(&[LINKED, LINKED - 2, LINKED + 64], LINKED), (12, 1, 0)),
+        hand("beyond, then below", at(&[LINKED, LINKED + 64, LINKED - 2], LINKED), (12, 1, 0)),
+    ]
+}
+
+/// Words that end beyond the image.
+fn start_beyond(class: u32) -> Vec<Hand> {
+    let (image, size, word) = (bytes64(), class as usize, class as u64);
+    let at = |words: &[u64], image: &[u8]| apply_at(class, words, LINKED, image);
+    let odd = apply_at(class, &[0x1002], 0x1001, &image[..size]);
+    let last = LINKED + 64 - word;
+    vec![
+        hand("the last word, one byte short", at(&[last], &image[..63]), (12, 0, 0)),
+        hand("two beyond", at(&[last + 2], &image), (12, 0, 0)),
+        hand("one beyond, odd start", odd, (12, 0, 0)),
+        hand("at the end", at(&[LINKED, LINKED + 64], &image), (12, 1, 0)),
+        hand("the only word, one byte short", at(&[LINKED], &image[..size - 1]), (12, 0, 0)),
+        hand("no image", at(&[LINKED], &[]), (12, 0, 0)),
+        hand("bitmap over the end", at(&[LINKED, 0x1F], &image[..3 * size]), (12, 3, 0)),
+        hand("bitmap over the end, holes", at(&[LINKED, 0x95], &image[..5 * size]), (12, 3, 0)),
+        hand("bitmap one byte short", at(&[LINKED, 3], &image[..2 * size - 1]), (12, 1, 0)),
+        hand("beyond, then inside", at(&[LINKED, 0x2000, LINKED], &image), (12, 1, 0)),
+    ]
+}
+
+/// Starts past the class's space, and about the end of all numbers: no
+/// difference wraps.
+fn start_past(class: u32) -> Vec<Hand> {
+    let image = bytes64();
+    let top = if class == 4 { TOP4 } else { TOP8 };
+    let mut hands = Vec::new();
+    for start in [1 << 32, u64::MAX - 7, u64::MAX] {
+        let at = |words: &[u64], image: &[u8]| apply_at(class, words, start, image);
+        let name = |what| format!("{start:#x}, {what}");
+        hands.extend([
+            hand(&name("empty list"), at(&[], &image), (0, 0, 0)),
+            hand(&name("empty list, no image"), at(&[], &[]), (0, 0, 0)),
+            hand(&name("offset 0"), at(&[0, top], &image), (12, 0, 0)),
+        ]);
+    }
+    let at = |words: &[u64], start| apply_at(class, words, start, &image);
+    hands.push(hand("2^32 above the offset", at(&[8], 1 << 32 | 8), (12, 0, 0)));
+    hands.push(hand("the largest start", at(&[top], u64::MAX), (12, 0, 0)));
+    hands
+}
+
+/// Images at the top of the class's space; one of 64 bytes goes on past it.
+fn start_top(class: u32) -> Vec<Hand> {
+    let (image, size, word) = (bytes64(), class as usize, class as u64);
+    let at = |words: &[u64], start, image: &[u8]| apply_at(class, words, start, image);
+    let top = if class == 4 { TOP4 } else { TOP8 };
+    let low = top - word;
+    vec![
+        hand("top", at(&[top], top, &image[..size]), (0, 0, 1)),
+        hand("top, one byte short", at(&[top], top, &image[..size - 1]), (12, 0, 0)),
+        hand("top, start two above", at(&[top], top + 2, &image), (12, 0, 0)),
+        hand("over the top", at(&[low, 3], low, &image), (0, 0, 2)),
+        hand("over the top, at the start", at(&[top, low], low, &image), (0, 0, 2)),
+        hand("over the top, below", at(&[top, low - 2], low, &image), (12, 1, 0)),
+        hand("over the top, offset 0", at(&[low, 0], low, &image), (12, 1, 0)),
+        hand("over the top, short", at(&[low, 3], low, &image[..2 * size - 1]), (12, 1, 0)),
+    ]
+}
+
+/// An offset below the start is refused after all else.
+fn start_order(class: u32) -> Vec<Hand> {
+    let (image, word) = (bytes64(), class as u64);
+    let high = 2 * LINKED;
+    let at = |words: &[u64]| apply_at(class, words, high, &image);
+    let (top, out) = if class == 4 { (TOP4, OUT4) } else { (TOP8, OUT8) };
+    let mut uneven = relr_bytes(class, &[LINKED]);
+    uneven.push(0);
+    let uneven = Case::apply(class, &uneven, 1, high, &image);
+    let mut hands = vec![
+        hand("4 before 12", uneven, (4, word + 1, 0)),
+        hand("6 before 12", at(&[1, LINKED]), (6, 0, 0)),
+        hand("7 before 12", at(&[LINKED, out]), (7, word, 0)),
+        hand("7 before 12, bitmap", at(&[LINKED, top, 3]), (7, 2 * word, 0)),
+    ];
+    if class == 4 {
+        let based =
+            |words: &[u64]| Case::apply(class, &relr_bytes(class, words), 1 << 32, high, &image);
+        hands.push(hand("15 before 12", based(&[LINKED]), (15, 0, 0)));
+        hands.push(hand("15, empty list", based(&[]), (15, 0, 0)));
+    }
+    let bad = apply_at(5 + class, &[LINKED], high, &image);
+    hands.push(hand("1 before 12", bad, (1, 0, 0)));
+    hands
 }

@@ -59,7 +59,7 @@ fn zeros(call: u8, class: u32, length: usize) -> Case {
     let Call { shape, columns, .. } = Call::of(call);
     match shape {
         Shape::Read => Case::read_into(call, class, &vec![0; length], 4),
-        Shape::Apply => Case::apply(class, &vec![0; length], 0x1_0003, &[0xFE; 9]),
+        Shape::Apply => Case::apply(class, &vec![0; length], 0x1_0003, 0, &[0xFE; 9]),
         Shape::Write => {
             let [_, types, symbols, addends] = columns.map(|has| if has { length } else { 0 });
             let case = Case::write(call, class, &vec![0; length], 16);

@@ -44,7 +44,7 @@ pub fn by_library(case: &Case) -> Run {
     let result = match case.call {
         RELR_READ => reloc::relr_read(case.class, i, o),
         RELR_WRITE => reloc::relr_write(case.class, o, b),
-        RELR_APPLY => reloc::relr_apply(case.class, i, case.base, b),
+        RELR_APPLY => reloc::relr_apply(case.class, i, case.base, case.start, b),
         APR1_READ => reloc::apr1_read(i, o),
         APR1_WRITE => reloc::apr1_write(o, b),
         APA1_READ => reloc::apa1_read(i, o, a),

@@ -43,9 +43,30 @@ fn every_refusal_is_met() {
 #[test]
 fn every_edge_is_met() {
     let mut rng = Rng::new(1);
-    let met: HashSet<&str> =
-        (0..20_000).filter_map(|_| edge(&generate::case(&mut rng).case)).collect();
-    assert_eq!(met.len(), 6, "{met:?}");
+    let mut met = HashSet::new();
+    for _ in 0..20_000 {
+        let case = generate::case(&mut rng).case;
+        met.extend(edge(&case));
+        met.extend(edge_of_a_start(&case));
+    }
+    assert_eq!(met.len(), 11, "{met:?}");
+}
+
+/// The edge that the start of a case's image meets, if any.
+fn edge_of_a_start(case: &Case) -> Option<&'static str> {
+    let answer = case.run().0;
+    let from = |start| Case { start, ..case.clone() }.run().0.number;
+    let end = case.start as u128 + case.bytes.len() as u128;
+    match (case.start, answer.number) {
+        _ if case.call != RELR_APPLY => None,
+        (_, 0) if end > 1 << 64 && answer.count > 0 => Some("image past 2^64"),
+        (0x8000_0000_0000_0000.., 0) if answer.count == 0 => Some("high start, no offset"),
+        (u64::MAX, _) => None,
+        (1.., 0) if from(case.start + 1) == 12 => Some("highest start"),
+        (1.., 12) if answer.place > 0 && from(case.start - 1) == 0 => Some("start one too high"),
+        (1.., 12) if answer.place == 0 && from(case.start - 1) == 0 => Some("first one below"),
+        _ => None,
+    }
 }
 
 /// The edge that a case meets, if any.

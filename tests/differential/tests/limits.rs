@@ -70,9 +70,28 @@ fn relr_applied() {
         // The offset 1 << 5, again and again.
         let mut table = relr_bytes(class, &[1 << 5]).repeat(INPUT_LIMIT / class as usize);
         let additions = INPUT_LIMIT / class as usize;
-        check(&Case::apply(class, &table, 0xFEDC_BA98, &[0x77; 41]), Ok(additions));
+        check(&Case::apply(class, &table, 0xFEDC_BA98, 0, &[0x77; 41]), Ok(additions));
         table.push(0);
-        check(&Case::apply(class, &table, 0xFEDC_BA98, &[0x77; 41]), LIMIT);
+        check(&Case::apply(class, &table, 0xFEDC_BA98, 0, &[0x77; 41]), LIMIT);
+    }
+}
+
+/// The same table on an image of one word, which starts at the offset; then the
+/// last offset is below the start.
+#[test]
+fn relr_applied_from_a_start() {
+    for class in [4, 8] {
+        let (word, additions) = (class as usize, INPUT_LIMIT / class as usize);
+        let mut table = relr_bytes(class, &[1 << 5]).repeat(additions);
+        let from = |table: &[u8], start, length| {
+            Case::apply(class, table, 0xFEDC_BA98, start, &vec![0x77; length])
+        };
+        check(&from(&table, 1 << 5, word), Ok(additions));
+        check(&from(&table, 1 << 5, word - 1), refused(12, 0));
+        check(&from(&table, (1 << 5) + 1, 41), refused(12, 0));
+        table[INPUT_LIMIT - word] = 30;
+        check(&from(&table, 1 << 5, word), refused(12, additions - 1));
+        check(&from(&table, 30, word + 2), Ok(additions));
     }
 }
 
@@ -118,14 +137,16 @@ fn bitmaps(class: u32, address: u64, bitmap: u64) -> Vec<u8> {
 /// space, and it does not wrap.
 #[test]
 fn relr_where() {
-    for class in [4, 8] {
-        let mut table = bitmaps(class, 0u64.wrapping_sub(class as u64), 1);
+    for (class, largest) in [(4, u32::MAX as u64 - 3), (8, u64::MAX - 7)] {
+        let mut table = bitmaps(class, largest, 1);
         check(&Case::read_into(RELR_READ, class, &table, 2), Ok(1));
-        check(&Case::apply(class, &table, 1, &[0; 8]), refused(12, 0));
+        check(&Case::apply(class, &table, 1, 0, &[0; 8]), refused(12, 0));
+        check(&Case::apply(class, &table, 1, largest, &[0; 8]), Ok(1));
         let last = INPUT_LIMIT - class as usize;
         table[last] = 3;
         check(&Case::read_into(RELR_READ, class, &table, 2), refused(7, last));
-        check(&Case::apply(class, &table, 1, &[0; 8]), refused(7, last));
+        check(&Case::apply(class, &table, 1, 0, &[0; 8]), refused(7, last));
+        check(&Case::apply(class, &table, 1, largest, &[0; 8]), refused(7, last));
     }
 }
 
@@ -155,7 +176,7 @@ fn relr_most_additions() {
         let turn = relr_bytes(class, &[vec![0], vec![u64::MAX; BITMAPS]].concat());
         let turns = INPUT_LIMIT / turn.len();
         let places = 1 + BITMAPS * (8 * word - 1);
-        let case = Case::apply(class, &turn.repeat(turns), base, &vec![0; places * word]);
+        let case = Case::apply(class, &turn.repeat(turns), base, 0, &vec![0; places * word]);
         assert_eq!(case.input.len(), INPUT_LIMIT);
         let got = by_library(&case);
         let want = Ok(turns * places);
