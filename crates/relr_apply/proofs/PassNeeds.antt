@@ -30,11 +30,11 @@ use Rattle.relr_table.specs.Contract.{changed, AppliesIn}
 use Rattle.relr_table.specs.Place.{Place, Nowhere}
 use Rattle.relr_table.specs.declared.place.Opened.{Opened}
 use Rattle.relr_table.specs.declared.place.Opened.the-variants.{Address, Marks, Refused}
-use Rattle.relr_table.specs.Inner.{marksOf, OpensAt, between}
+use Rattle.relr_table.specs.Inner.{marksOf, OpensAt, between, Standing}
 use Rattle.relr_apply.specs.Inner.{Patchable, Targeted, Patched, End}
 use Rattle.relr_table.proofs.Marked.{all-left, all-right}
 use Rattle.relr_table.proofs.PlaceNeeds.{one-mark}
-use Rattle.relr_table.proofs.Passed.{Standing, standing-begin, standing-load, standing-end, Word, word-refused, word-marks, word-one, word-done, word-good, Marking, marking-begin, marking-head, marking-set, marking-clear, marking-end, mark-dist, mark-fits, step-fits, step-less, space-most}
+use Rattle.relr_table.proofs.Passed.{standing-begin, standing-load, standing-end, Word, word-refused, word-marks, word-one, word-done, word-good, Marking, marking-begin, marking-head, marking-set, marking-clear, marking-end, mark-dist, mark-fits, step-fits, step-less, space-most}
 use Rattle.relr_table.proofs.Decoding.{decode-good, contained-space}
 use Rattle.relr_table.proofs.Applying.{patched-length, patched-more, patched-one, targets-over, targets-in, targets-accepted}
 

@@ -25,10 +25,10 @@ use Rattle.word.specs.Class.Laws.{bytes-least}
 use Rattle.relr_table.specs.Place.{Place, Nowhere}
 use Rattle.relr_table.specs.declared.place.Opened.{Opened}
 use Rattle.relr_table.specs.declared.place.Opened.the-variants.{Address, Marks, Refused}
-use Rattle.relr_table.specs.Inner.{marksOf, OpensAt, between}
+use Rattle.relr_table.specs.Inner.{marksOf, OpensAt, between, Standing}
 use Rattle.relr_read.specs.Inner.{Markable, Fillable, Filled}
 use Rattle.relr_table.proofs.PlaceNeeds.{one-mark}
-use Rattle.relr_table.proofs.Passed.{Standing, standing-begin, standing-load, standing-end, Word, word-refused, word-marks, word-one, word-done, word-good, among-long, Marking, marking-begin, marking-set, marking-clear, marking-end, step-fits, step-less, mark-dist, mark-fits, mark-more, step-fits, step-less, space-most}
+use Rattle.relr_table.proofs.Passed.{standing-begin, standing-load, standing-end, Word, word-refused, word-marks, word-one, word-done, word-good, among-long, Marking, marking-begin, marking-set, marking-clear, marking-end, step-fits, step-less, mark-dist, mark-fits, mark-more, step-fits, step-less, space-most}
 use Rattle.relr_table.specs.Table.{spaceOf, decode, contained}
 use Rattle.relr_table.proofs.Decoding.{decode-good, contained-space}
 use Rattle.relr_table.proofs.Leading.{contained-every}
@@ -158,15 +158,14 @@ pub ruleset readings = (reading-begin, reading-long, reading-end, reading-not, r
 pub past-last : (k : Class) (last : ℕ) → last + bytesOf k ≡ spaceOf k → Fits w64 (last + 1)
 past-last k last h = record { fits = omega (arith, space-most k, bytes-least k) }
 
--- a bound past the last offset of the space, where a class has two names
-pub counts-from : {k j : Class} (e : k ≡ j) (s : List ℕ) (last : ℕ) {f : Found} → last + bytesOf j ≡ spaceOf j → f ≡ foundOf (contained (between 0 (last + 1)) (decode j s))
-    → f ≡ foundOf (decode k s)
-counts-from {k} {j} e s last {f} g h =
-    let all : contained (between 0 (last + 1)) (decode j s) ≡ decode j s =
-    contained-space j s (between 0 (last + 1)) (λ x. true) (λ x l. rw (le-leb 0 x (omega arith)) (lt-ltb x (last + 1) (omega arith))) ∙ contained-every (decode j s) in
-    subst (λ (i : Class). f ≡ foundOf (decode i s)) (sym e) (h ∙ ap foundOf all)
+-- an end past the last offset of the space holds none back
+pub counts-all : (k : Class) (s : List ℕ) (last : ℕ) {f : Found} → last + bytesOf k ≡ spaceOf k → f ≡ foundOf (contained (between 0 (last + 1)) (decode k s)) → f ≡ foundOf (decode k s)
+counts-all k s last g h =
+    let all : contained (between 0 (last + 1)) (decode k s) ≡ decode k s =
+    contained-space k s (between 0 (last + 1)) (λ x. true) (λ x l. rw (le-leb 0 x (omega arith)) (lt-ltb x (last + 1) (omega arith))) ∙ contained-every (decode k s) in
+    h ∙ ap foundOf all
 
-pub ruleset counts = (past-last, counts-from, needs)
+pub ruleset counts = (past-last, counts-all, needs)
 
 -- ---- a read for a class: f is what the first pass found
 module _ (k : Class) (s old : List ℕ) {f : Found} (is : f ≡ foundOf (decode k s)) {n : ℕ} (e : f ≡ Count n) (fits : n ≤ length old) where

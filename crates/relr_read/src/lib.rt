@@ -64,10 +64,7 @@ fn fill(k: Class, s: &[u8], column: &mut [u64])
 fn count(k: Class, table: &[u8]) -> Found
     ensures { λ r. ⌜ r ≡ foundOf (decode k (now (table .entry))) ⌝ }
 {
-    match k {
-        Class::Four => relr_walk::find_by(false, table, 0, Class::Four.last() + 1),
-        Class::Eight => relr_walk::find_by(true, table, 0, Class::Eight.last() + 1),
-    }
+    relr_walk::find(k, table, 0, k.last() + 1)
 }
 
 // Reading, for a class.

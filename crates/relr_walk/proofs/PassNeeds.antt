@@ -12,7 +12,7 @@ use mir.Syntax.{w64}
 use mir.Val.{Fits}
 use borrow.Author.Needs.{needs}
 use borrow.Author.Tests.{eq-eqb, ne-eqb, lt-ltb, le-ltb, ltb-true, lt-leb, le-leb, leb-true}
-use lib.Dec.{leb, ltb, eqb}
+use lib.Dec.{leb, ltb, eqb, lit≤}
 use Rattle.answer.specs.declared.Refusal.{Refusal}
 use Rattle.answer.specs.declared.Refusal.the-variants.{Limit, Missing, Space, Outside}
 use Rattle.answer.specs.declared.Found.{Found}
@@ -26,19 +26,22 @@ use Rattle.word.specs.declared.Class.the-variants.{Four, Eight}
 use Rattle.word.specs.Class.{bytesOf, windowOf}
 use Rattle.word.specs.Class.Laws.{bytes-least, bytes-most}
 use Rattle.word.specs.Word.{wordAt}
-use Rattle.relr_table.specs.Words.{marked, fit}
+use Rattle.relr_table.specs.Words.{Where, marked, fit}
 use Rattle.relr_table.specs.Table.{spaceOf, All, decode, contained}
-use Rattle.relr_table.specs.Place.{Place, Nowhere}
+use Rattle.relr_table.specs.Place.{Place, Nowhere, Stands, inside}
 use Rattle.relr_table.specs.declared.place.Opened.{Opened}
 use Rattle.relr_table.specs.declared.place.Opened.the-variants.{Address, Marks, Refused}
-use Rattle.relr_table.specs.Inner.{marksOf, OpensAt, Whole, wordsRead, between}
-use Rattle.relr_walk.specs.Inner.{grow, surveyed, Fence}
+use Rattle.relr_table.specs.Inner.{marksOf, Marked, OpensAt, Whole, wordsRead, between, Standing}
+use Rattle.relr_walk.specs.declared.Passed.{Passed}
+use Rattle.relr_walk.specs.declared.Stepped.{Stepped}
+use Rattle.relr_walk.specs.declared.Stepped.the-variants.{Takes, Stops}
+use Rattle.relr_walk.specs.Inner.{grow, surveyed, none, Leads, Scanned, ScannedTo, Skimmable, Skims, Fence, Cleared, Steps}
 use Rattle.relr_table.proofs.Decoding.{decode-long, decode-part, decode-whole}
-use Rattle.relr_walk.proofs.Leads.{none, Leads, leads-begin, leads-more, leads-all, leads-end}
+use Rattle.relr_walk.proofs.Leads.{leads-begin, leads-more, leads-all, leads-end}
 use Rattle.relr_table.proofs.Leading.{contained-refused}
 use Rattle.relr_table.proofs.Marked.{On, all-map, marked-on, marked-most}
-use Rattle.relr_table.proofs.PlaceNeeds.{one-mark}
-use Rattle.relr_table.proofs.Passed.{fit-append, fit-one, fit-not, all-fit, Standing, standing-begin, standing-load, standing-end, Word, word-refused, word-marks, word-one, word-done, Marking, marking-begin, marking-less, marking-set, marking-clear, marking-dist, marking-end, marking-head, step-fits, step-less}
+use Rattle.relr_table.proofs.PlaceNeeds.{one-mark, address-marks, bitmap-at, half-fits}
+use Rattle.relr_table.proofs.Passed.{fit-append, fit-one, fit-not, all-fit, standing-begin, standing-load, standing-end, Word, word-marked, word-refused, word-marks, word-one, word-done, Marking, marking-begin, marking-less, marking-set, marking-clear, marking-dist, marking-end, marking-head, step-fits, step-less, space-most}
 
 -- ---- counting
 module _ (first count : ℕ) {b : Bool} where
@@ -102,16 +105,6 @@ module _ (k : Class) (high width last : ℕ) (e : width ≡ windowOf k * bytesOf
 
 pub ruleset fences = (fence-none, fence-last, fence-high, fence-room, needs)
 
--- each location is its anchor or more, and ends by the window's end
-window-all : (k : Class) (anchor set top : ℕ) → anchor + windowOf k * bytesOf k ≤ top → All (λ x. (anchor ≤ x) × (x + bytesOf k ≤ top)) (marksOf k set anchor)
-window-all k anchor set top h =
-    all-map (On (bytesOf k) (windowOf k) anchor) (λ x. (anchor ≤ x) × (x + bytesOf k ≤ top))
-    (λ x (j, l, e). (omega arith, omega (arith, mul-le-mul-right (bytesOf k) (more l), suc-mul j (bytesOf k))))
-    (marksOf k set anchor) (marked-on (bytesOf k) (windowOf k) set anchor)
-  where
-    more : {j n : ℕ} → j < n → suc j ≤ n
-    more h = omega arith
-
 -- ---- a bitmap's locations, counted
 unfoldable pub ones : ℕ → ℕ → ℕ
 ones zero b = 0
@@ -173,16 +166,146 @@ module _ {set count bits : ℕ} (t : Tally set count bits) where
 
 pub ruleset tallies = (tally-begin, tally-fits, tally-more, tally-end, needs)
 
--- ---- between two words
-pub record Scanned (k : Class) (s : List ℕ) (low high at : ℕ) (p : Place) (count first : ℕ) : Type 0 where
-  pub list : List ℕ
-  pub standing : Standing k s list at p
-  pub counted : count ≡ length list
-  pub lead : Leads (between low high) first list
-  pub few : count ≤ 64 * at
+-- ---- a word that lies between the two ends
+-- each location of a bitmap is its anchor or more, and ends by the window's end
+window-all : (k : Class) (anchor set top : ℕ) → anchor + windowOf k * bytesOf k ≤ top → All (λ x. (anchor ≤ x) × (x + bytesOf k ≤ top)) (marksOf k set anchor)
+window-all k anchor set top h =
+    all-map (On (bytesOf k) (windowOf k) anchor) (λ x. (anchor ≤ x) × (x + bytesOf k ≤ top))
+    (λ x (j, l, e). (omega arith, omega (arith, mul-le-mul-right (bytesOf k) (more l), suc-mul j (bytesOf k))))
+    (marksOf k set anchor) (marked-on (bytesOf k) (windowOf k) set anchor)
+  where
+    more : {j n : ℕ} → j < n → suc j ≤ n
+    more h = omega arith
 
+-- a window is a word or more
+window-some : (k : Class) → bytesOf k ≤ windowOf k * bytesOf k
+window-some Four = lit≤ tt
+window-some Eight = lit≤ tt
+
+module _ {k : Class} {low high clear : ℕ} (f : Fence k high clear) where
+  -- what is marked from an anchor between `low` and the fence
+  clears : {w : Where} {x anchor bits n : ℕ} {next : Place} → Marked k w x anchor bits next → n ≡ length (marksOf k bits anchor) → between low clear anchor ≡ true
+      → Cleared k low high w x n next
+  clears {anchor = anchor} {bits = bits} m e b =
+      let (la, lc) = between-true low clear anchor b in
+      let (in-space, in-high) = f anchor lc in
+      let l = marksOf k bits anchor in
+      record {
+        anchor = anchor;
+        bits = bits;
+        marked = m;
+        counted = e;
+        fits = all-fit (bytesOf k) (spaceOf k) l
+            (all-map (λ y. (anchor ≤ y) × (y + bytesOf k ≤ spaceOf k)) (λ y. y + bytesOf k ≤ spaceOf k) (λ y z. z .1) l (window-all k anchor bits (spaceOf k) (omega arith)));
+        each = all-map (λ y. (anchor ≤ y) × (y + bytesOf k ≤ high)) (λ y. between low high y ≡ true)
+            (λ y z. true-between low high y (omega (arith, z .0)) (omega (arith, z .1, bytes-least k))) l (window-all k anchor bits high in-high);
+      }
+
+module _ (k : Class) (low clear : ℕ) {b : Bool} where
+  pub step-address : {x c : ℕ} → x % 2 ≡ 0 → b ≡ between low clear x → b ≡ true → c ≡ bytesOf k → (p : Place) (high : ℕ) → Fence k high clear
+      → Steps k low high p x (Takes 1 (x + c))
+  step-address {x} {c} even be was ce p high f w s =
+      let t = sym be ∙ was in
+      let (in-space, in-high) = f x (between-true low clear x t .1) in
+      let r = spaceOf k - bytesOf k in
+      clears f
+      (address-marks k x r even (omega (arith, window-some k)) (omega (arith, window-some k)) ce (inside refl (omega (arith, window-some k))) w)
+      (sym (ap length (one-mark k x))) t
+
+  pub step-bitmap : {x d n : ℕ} {p : Place} → (x % 2 ≡ 0 → ⊥) → x < spaceOf k → b ≡ between low clear p → b ≡ true → d ≡ windowOf k * bytesOf k
+      → ((c m u : ℕ) → x / 2 < 2 ^ m → n ≡ length (marked c m (x / 2) u)) → (high : ℕ) → Fence k high clear → Steps k low high p x (Takes n (p + d))
+  step-bitmap {x} {d} {n} {p} odd small be was de tells high f w s =
+      let t = sym be ∙ was in
+      let (in-space, in-high) = f p (between-true low clear p t .1) in
+      let r = spaceOf k - bytesOf k in
+      let h = half-fits k x small in
+      clears f
+      (bitmap-at k p (x / 2) x (omega arith) refl {r = r} (omega (arith, window-some k)) (omega (arith, window-some k)) h de (inside refl (omega arith)) w s)
+      (tells (bytesOf k) (windowOf k) p h) t
+
+  module _ (some : (high : ℕ) × Fence k high clear) (u : ℕ) (be : b ≡ between low clear u) (was : b ≡ true) where
+    pub step-word : {c : ℕ} → c ≡ bytesOf k → Fits w64 (u + c)
+    step-word ce = let (in-space, in-high) = some .1 u (between-true low clear u (sym be ∙ was) .1) in record { fits = omega (arith, window-some k, space-most k, bytes-least k) }
+
+    pub step-stride : {d : ℕ} → d ≡ windowOf k * bytesOf k → Fits w64 (u + d)
+    step-stride de = let (in-space, in-high) = some .1 u (between-true low clear u (sym be ∙ was) .1) in record { fits = omega (arith, space-most k, bytes-least k) }
+
+pub step-stops : (k : Class) (low clear : ℕ) (p : Place) (x high : ℕ) → Fence k high clear → Steps k low high p x Stops
+step-stops k low clear p x high f = tt
+
+pub ruleset steps = (step-address, step-bitmap, step-word, step-stride, step-stops, half-fits, needs)
+
+-- ---- between two words
 pub scan-begin : {k : Class} {s : List ℕ} (low high : ℕ) → Whole k s → Scanned k s low high 0 Nowhere 0 none
 scan-begin {k} {s} low high h = record { list = []; standing = standing-begin k s h; counted = refl; lead = leads-begin (between low high); few = omega arith }
+
+-- the offsets passed are at most 64 for each word
+module _ {k : Class} {s : List ℕ} {low high at count first : ℕ} {p : Place} (h : Scanned k s low high at p count first) where
+  long : Whole k s → at ≤ length s + 8
+  long w = go (h .standing .left) (h .standing .long)
+    where
+      go : (n : ℕ) → length s ≡ at + n * bytesOf k → at ≤ length s + 8
+      go n e = omega arith
+
+  pub scan-load : at < length s → at + bytesOf k ≤ length s
+  scan-load l = standing-load (h .standing) l
+
+  -- a step past a word that lies between the two ends
+  module _ {x n : ℕ} {next : Place} (l : at < length s) (e : x ≡ wordAt (bytesOf k) s at) (o : (w : Where) → Stands k w p → Cleared k low high w x n next) where
+    c : Cleared k low high (h .standing .w) x n next
+    c = o (h .standing .w) (h .standing .stands)
+
+    few-more : n ≤ windowOf k
+    few-more = omega (arith, c .counted, marked-most (bytesOf k) (windowOf k) (c .bits) (c .anchor))
+
+    scan-step : Scanned k s low high (at + bytesOf k) next (count + n) first
+    scan-step =
+        let m = marksOf k (c .bits) (c .anchor) in
+        record {
+          list = h .list ++ m;
+          standing = word-done (word-marked (h .standing) l e (c .marked)) (c .fits);
+          counted = omega (arith, c .counted, h .counted, length-append (h .list) m);
+          lead = leads-all (h .lead) m (c .each);
+          few = omega (arith, few-more, bytes-most k, bytes-least k, h .few);
+        }
+
+    scan-sum : Whole k s → Fits w64 (count + n)
+    scan-sum w = record { fits = omega (arith, few-more, bytes-most k, h .few, long w, w .few, input-most) }
+
+-- ---- words that are skimmed
+pub record Skimming (k : Class) (s : List ℕ) (low high at₀ : ℕ) (p₀ : Place) (count₀ at : ℕ) (p : Place) (count : ℕ) : Type 0 where
+  pub ahead : at₀ ≤ at
+  pub on : (first : ℕ) → Scanned k s low high at₀ p₀ count₀ first → Scanned k s low high at p count first
+
+pub skim-begin : (k : Class) (s : List ℕ) (low high at : ℕ) (p : Place) (count : ℕ) → Skimming k s low high at p count at p count
+skim-begin k s low high at p count = record { ahead = omega arith; on = λ first h. h }
+
+module _ {k : Class} {s : List ℕ} {low high : ℕ} {from : Passed} (a : Skimmable k s low high from) {at count : ℕ} {p : Place} (g : Skimming k s low high (from .at) (from .place) (from .count) at p count) where
+  now : Scanned k s low high at p count (a .first)
+  now = g .on (a .first) (a .scanned)
+
+  pub skim-load : at < length s → at + bytesOf k ≤ length s
+  skim-load l = scan-load now l
+
+  pub skim-end : Skims k s low high from (record { at = at; place = p; count = count })
+  skim-end = record { ahead = g .ahead; on = g .on }
+
+  module _ {clear x n : ℕ} {next : Place} {r : Stepped} (l : at < length s) (e : x ≡ wordAt (bytesOf k) s at) (f : Fence k high clear)
+      (o : (high : ℕ) → Fence k high clear → Steps k low high p x r) (q : r ≡ Takes n next) where
+    steps-on : (w : Where) → Stands k w p → Cleared k low high w x n next
+    steps-on = subst (Steps k low high p x) q (o high f)
+
+    pub skim-sum : Fits w64 (count + n)
+    skim-sum = scan-sum now l e steps-on (a .whole)
+
+    pub skim-on : {c : ℕ} → c ≡ bytesOf k → Skimming k s low high (from .at) (from .place) (from .count) (at + c) next (count + n)
+    skim-on ce = record { ahead = omega (arith, g .ahead); on = λ first h. rw ce (scan-step (g .on first h) l e steps-on) }
+
+pub ruleset skims = (skim-begin, skim-load, skim-end, skim-sum, skim-on, step-fits, step-less, needs)
+
+pub skim-allowed : {k : Class} {s : List ℕ} {low high at count first : ℕ} {p : Place} → Whole k s → Scanned k s low high at p count first
+    → Skimmable k s low high (record { at = at; place = p; count = count })
+skim-allowed w h = record { whole = w; first = _; scanned = h }
 
 -- ---- first a word
 pub record Walking (k : Class) (s : List ℕ) (low high at count first anchor set : ℕ) (next : Place) (bits d : ℕ) : Type 0 where
@@ -196,32 +319,33 @@ pub record Walking (k : Class) (s : List ℕ) (low high at count first anchor se
   pub lead : Leads (between low high) first (list ++ passed)
   pub few : count ≤ 64 * at + j
 
-module _ {k : Class} {s : List ℕ} {low high at count first : ℕ} {p : Place} (h : Scanned k s low high at p count first) where
-  pub scan-load : at < length s → at + bytesOf k ≤ length s
-  scan-load l = standing-load (h .standing) l
+-- from where a walk skimmed to
+module _ {k : Class} {s : List ℕ} {low high first : ℕ} {from q : Passed} (h₀ : ScannedTo k s low high from first) (z : Skims k s low high from q) where
+  h : ScannedTo k s low high q first
+  h = z .on first h₀
 
-  -- the offsets passed are at most 64 for each word
-  long : Whole k s → at ≤ length s + 8
-  long w = go (h .standing .left) (h .standing .long)
-    where
-      go : (n : ℕ) → length s ≡ at + n * bytesOf k → at ≤ length s + 8
-      go n e = omega arith
+  scan-small : Whole k s → q .count < none
+  scan-small w = omega (arith, h .few, long h w, w .few, input-most)
 
-  scan-small : Whole k s → count < none
-  scan-small w = omega (arith, h .few, long w, w .few, input-most)
+  pub scan-fetch : q .at < length s → q .at + bytesOf k ≤ length s
+  scan-fetch l = scan-load h l
 
-  pub scan-end : Whole k s → {r : Found} → r ≡ surveyed count first → length s ≤ at → r ≡ foundOf (contained (between low high) (wordsRead k s))
+  pub scan-less : {c : ℕ} → q .at < length s → c ≡ bytesOf k → length s - (q .at + c) < length s - from .at
+  scan-less l ce = omega (arith, z .ahead, bytes-least k)
+
+  pub scan-end : Whole k s → {r : Found} → r ≡ surveyed (q .count) first → length s ≤ q .at → r ≡ foundOf (contained (between low high) (wordsRead k s))
   scan-end w e l = e ∙ leads-end (h .counted) (scan-small w) (h .lead) (standing-end (h .standing) l)
 
-  module _ {x : ℕ} {r : Opened} (l : at < length s) (e : x ≡ wordAt (bytesOf k) s at) (o : OpensAt k p x r) where
-    pub scan-refused : {why : Refusal} → r ≡ Refused why → found.Refused why at ≡ foundOf (contained (between low high) (wordsRead k s))
+  module _ {x : ℕ} {r : Opened} (l : q .at < length s) (e : x ≡ wordAt (bytesOf k) s (q .at)) (o : OpensAt k (q .place) x r) where
+    pub scan-refused : {why : Refusal} → r ≡ Refused why → found.Refused why (q .at) ≡ foundOf (contained (between low high) (wordsRead k s))
     scan-refused f = sym (found-refused (contained-refused (between low high) (word-refused (h .standing) l e o f)))
 
     module _ {y : ℕ} {next : Place} (f : r ≡ Address y next) where
-      pub scan-count : Whole k s → Fits w64 (count + 1)
+      pub scan-count : Whole k s → Fits w64 (q .count + 1)
       scan-count w = record { fits = omega (arith, scan-small w) }
 
-      pub scan-one : {c x′ : ℕ} {b : Bool} → Whole k s → c ≡ bytesOf k → b ≡ between low high y → x′ ≡ grow first count b → Scanned k s low high (at + c) next (count + 1) x′
+      pub scan-one : {c x′ : ℕ} {b : Bool} → Whole k s → c ≡ bytesOf k → b ≡ between low high y → x′ ≡ grow first (q .count) b
+          → Scanned k s low high (q .at + c) next (q .count + 1) x′
       scan-one {c} w ce be g =
           let a = word-one (h .standing) l e o f in
           let m = one-mark k y in
@@ -238,46 +362,22 @@ module _ {k : Class} {s : List ℕ} {low high at count first : ℕ} {p : Place} 
       pub scan-reach : (last : ℕ) → last + bytesOf k ≡ spaceOf k → anchor ≤ last
       scan-reach last g = omega (arith, word-marks (h .standing) l e o f .in-space)
 
-      -- a bitmap that lies between the two ends: its offsets are counted, and none is the first that fails
-      module _ {n : ℕ} (tells : (c m u : ℕ) → set < 2 ^ m → n ≡ length (marked c m set u)) where
-        g : n ≡ length (marksOf k set anchor)
-        g = tells (bytesOf k) (windowOf k) anchor (word-marks (h .standing) l e o f .in-window)
-
-        pub scan-sum : Whole k s → Fits w64 (count + n)
-        scan-sum w = record { fits = omega (arith, g, marked-most (bytesOf k) (windowOf k) set anchor, bytes-most k, h .few, long w, w .few, input-most) }
-
-        pub scan-all : {c clear : ℕ} {b : Bool} → c ≡ bytesOf k → Fence k high clear → b ≡ between low clear anchor → b ≡ true → Scanned k s low high (at + c) next (count + n) first
-        scan-all {c} {clear} ce fence be was =
-            let (la, lc) = between-true low clear anchor (sym be ∙ was) in
-            let (in-space, in-high) = fence anchor lc in
-            let m = marksOf k set anchor in
-            let fits = all-map (λ x. (anchor ≤ x) × (x + bytesOf k ≤ spaceOf k)) (λ x. x + bytesOf k ≤ spaceOf k) (λ x z. z .1) m (window-all k anchor set (spaceOf k) in-space) in
-            let st = word-done (word-marks (h .standing) l e o f) (all-fit (bytesOf k) (spaceOf k) m fits) in
-            record {
-              list = h .list ++ m;
-              standing = rw ce st;
-              counted = omega (arith, g, h .counted, length-append (h .list) m);
-              lead = leads-all (h .lead) m
-                  (all-map (λ x. (anchor ≤ x) × (x + bytesOf k ≤ high)) (λ x. between low high x ≡ true) (λ x z. true-between low high x (omega (arith, z .0)) (omega (arith, z .1, bytes-least k))) m
-                  (window-all k anchor set high in-high));
-              few = omega (arith, g, marked-most (bytesOf k) (windowOf k) set anchor, bytes-most k, bytes-least k, h .few);
-            }
-
-      pub walk-begin : Walking k s low high at count first anchor set next set 0
-      unfolding fit
-      walk-begin =
-          let w = word-marks (h .standing) l e o f in
-          record {
-            list = h .list;
-            passed = [];
-            j = 0;
-            word = w;
-            marking = marking-begin k anchor set (w .in-window);
-            fits = refl;
-            counted = rw append-nil (h .counted);
-            lead = rw append-nil (h .lead);
-            few = omega (arith, h .few);
-          }
+pub walk-begin : {k : Class} {s : List ℕ} {low high at count first x : ℕ} {p : Place} {r : Opened} {anchor set : ℕ} {next : Place} → Scanned k s low high at p count first
+    → at < length s → x ≡ wordAt (bytesOf k) s at → OpensAt k p x r → r ≡ Marks anchor set next → Walking k s low high at count first anchor set next set 0
+unfolding fit
+walk-begin {k} {anchor = anchor} {set = set} h l e o f =
+    let w = word-marks (h .standing) l e o f in
+    record {
+      list = h .list;
+      passed = [];
+      j = 0;
+      word = w;
+      marking = marking-begin k anchor set (w .in-window);
+      fits = refl;
+      counted = rw append-nil (h .counted);
+      lead = rw append-nil (h .lead);
+      few = omega (arith, h .few);
+    }
 
 module _ {k : Class} {s : List ℕ} {low high at count first anchor set : ℕ} {next : Place} {bits d : ℕ} (h : Walking k s low high at count first anchor set next bits d) where
   -- the last offset of the space
@@ -350,7 +450,7 @@ module _ {k : Class} {s : List ℕ} {low high at count first anchor set : ℕ} {
         few = omega (arith, h .few, h .marking .within, bytes-least k, bytes-most k);
       }
 
-pub ruleset scans = (scan-begin, scan-load, scan-end, scan-refused, scan-count, scan-one, scan-reach, scan-sum, scan-all, walk-begin, walk-offset, walk-far, walk-set, walk-clear, walk-dist, walk-small, walk-count, walk-done, step-fits, step-less, needs)
+pub ruleset scans = (scan-begin, skim-allowed, scan-fetch, scan-less, scan-end, scan-refused, scan-count, scan-one, scan-reach, walk-begin, walk-offset, walk-far, walk-set, walk-clear, walk-dist, walk-small, walk-count, walk-done, step-fits, step-less, needs)
 
 -- ---- the first pass over any bytes
 module _ (k : Class) (s : List ℕ) (low high : ℕ) where
@@ -368,11 +468,20 @@ module _ (k : Class) (s : List ℕ) (low high : ℕ) where
   find-words q e z h = q ∙ ap (λ (o : Outcome (List ℕ)). foundOf (contained (between low high) o)) (sym (decode-whole k s (find-whole e z h)))
 
 -- ---- one class by two names
-module _ {k j : Class} (e : k ≡ j) (s : List ℕ) (low high : ℕ) {f : Found} where
-  pub found-to : f ≡ foundOf (contained (between low high) (decode k s)) → f ≡ foundOf (contained (between low high) (decode j s))
-  found-to h = subst (λ (i : Class). f ≡ foundOf (contained (between low high) (decode i s))) e h
+module _ {k j : Class} (e : k ≡ j) (s : List ℕ) (low high : ℕ) {from : Passed} where
+  pub skimmable-to : Skimmable k s low high from → Skimmable j s low high from
+  skimmable-to h = subst (λ (i : Class). Skimmable i s low high from) e h
 
-  pub found-from : f ≡ foundOf (contained (between low high) (decode j s)) → f ≡ foundOf (contained (between low high) (decode k s))
-  found-from h = subst (λ (i : Class). f ≡ foundOf (contained (between low high) (decode i s))) (sym e) h
+  pub skimmable-from : Skimmable j s low high from → Skimmable k s low high from
+  skimmable-from h = subst (λ (i : Class). Skimmable i s low high from) (sym e) h
 
-pub ruleset finding = (find-long, find-part, find-whole, find-words, found-to, found-from, needs)
+  module _ {r : Passed} where
+    pub skims-to : Skims k s low high from r → Skims j s low high from r
+    skims-to h = subst (λ (i : Class). Skims i s low high from r) e h
+
+    pub skims-from : Skims j s low high from r → Skims k s low high from r
+    skims-from h = subst (λ (i : Class). Skims i s low high from r) (sym e) h
+
+pub ruleset classes = (skimmable-to, skimmable-from, skims-to, skims-from, needs)
+
+pub ruleset finding = (find-long, find-part, find-whole, find-words, needs)

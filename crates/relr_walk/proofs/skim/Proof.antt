@@ -1,0 +1,80 @@
+use lib.ListN.{length}
+use Prim.Native.Nat.{_-_}
+use Rattle.relr_walk.proofs.PassNeeds.{Skimming, skims}
+use Rattle.relr_walk.proofs.skim.Statement.{statement}
+use Rattle.relr_walk.proofs.skim.Tie as tie
+use Rattle.relr_walk.proofs.skim.Reads as reads
+use Rattle.relr_walk.proofs.skim.Lts as lts
+use Rattle.relr_walk.proofs.fence.Reads as fence-reads
+use Rattle.relr_walk.proofs.step.Reads as step-reads
+use Rattle.word.proofs.Class.bytes.Reads as bytes-reads
+use Rattle.word.proofs.load.Reads as load-reads
+
+abbrev Inv-loop : tie.InvT-loop
+Inv-loop k s low high c clear at₀ place₀ count₀ at place count = Skimming k s low high at₀ place₀ count₀ at place count
+
+abbrev μ-loop : tie.MeasureT-loop
+μ-loop k s low high c clear at₀ place₀ count₀ at place count = length s - at
+
+bytes-requires : tie.Need-bytes-requires Inv-loop μ-loop
+bytes-requires c κs = search skims
+
+cast-c : tie.Need-cast-c Inv-loop μ-loop
+cast-c c = search skims
+
+fence-requires : tie.Need-fence-requires Inv-loop μ-loop
+fence-requires c κs = search skims
+
+loop-holds : tie.Need-loop-holds Inv-loop μ-loop
+loop-holds c = search skims
+
+load-requires : tie.Need-load-requires Inv-loop μ-loop
+load-requires c κs = search skims
+
+step-requires : tie.Need-step-requires Inv-loop μ-loop
+step-requires c κs = search skims
+
+enum-told : tie.Need-enum-told Inv-loop μ-loop
+enum-told c = search skims
+
+returns : tie.Need-returns Inv-loop μ-loop
+returns c = search skims
+
+enum-known-stepped : tie.Need-enum-known-stepped Inv-loop μ-loop
+enum-known-stepped c = search skims
+
+add-count : tie.Need-add-count Inv-loop μ-loop
+add-count c = search skims
+
+add-at : tie.Need-add-at Inv-loop μ-loop
+add-at c = search skims
+
+loop-less : tie.Need-loop-less Inv-loop μ-loop
+loop-less c = search skims
+
+loop-again : tie.Need-loop-again Inv-loop μ-loop
+loop-again c = search skims
+
+returns-2 : tie.Need-returns-2 Inv-loop μ-loop
+returns-2 c = search skims
+
+pub skim-spec : {M : Type 1} → statement M
+skim-spec =
+    tie.close
+    (tie.spec
+    Inv-loop
+    μ-loop
+    bytes-requires
+    cast-c
+    fence-requires
+    loop-holds
+    load-requires
+    step-requires
+    enum-told
+    returns
+    enum-known-stepped
+    add-count
+    add-at
+    loop-less
+    loop-again
+    returns-2)
