@@ -1,10 +1,10 @@
-use Rattle.relr_walk.proofs.PassNeeds.{steps}
-use Rattle.relr_walk.proofs.step.Statement.{statement}
-use Rattle.relr_walk.proofs.step.Tie as tie
-use Rattle.relr_walk.proofs.step.Reads as reads
-use Rattle.relr_walk.proofs.step.Lts as lts
-use Rattle.relr_walk.proofs.marks.Reads as marks-reads
-use Rattle.relr_walk.proofs.within.Reads as within-reads
+use Rattle.relr_walk.proofs.SkimNeeds.{steps}
+use Rattle.relr_walk.proofs.skim.step.Statement.{statement}
+use Rattle.relr_walk.proofs.skim.step.Tie as tie
+use Rattle.relr_walk.proofs.skim.step.Reads as reads
+use Rattle.relr_walk.proofs.skim.step.Lts as lts
+use Rattle.relr_walk.proofs.skim.marks.Reads as marks-reads
+use Rattle.relr_walk.proofs.skim.within.Reads as within-reads
 use Rattle.word.proofs.Class.bytes.Reads as bytes-reads
 use Rattle.word.proofs.Class.stride.Reads as stride-reads
 

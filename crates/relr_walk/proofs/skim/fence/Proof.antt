@@ -1,8 +1,8 @@
-use Rattle.relr_walk.proofs.PassNeeds.{fences}
-use Rattle.relr_walk.proofs.fence.Statement.{statement}
-use Rattle.relr_walk.proofs.fence.Tie as tie
-use Rattle.relr_walk.proofs.fence.Reads as reads
-use Rattle.relr_walk.proofs.fence.Lts as lts
+use Rattle.relr_walk.proofs.SkimNeeds.{fences}
+use Rattle.relr_walk.proofs.skim.fence.Statement.{statement}
+use Rattle.relr_walk.proofs.skim.fence.Tie as tie
+use Rattle.relr_walk.proofs.skim.fence.Reads as reads
+use Rattle.relr_walk.proofs.skim.fence.Lts as lts
 use Rattle.word.proofs.Class.last.Reads as last-reads
 use Rattle.word.proofs.Class.stride.Reads as stride-reads
 

@@ -1,8 +1,8 @@
-use Rattle.relr_walk.proofs.PassNeeds.{Tally, tallies}
-use Rattle.relr_walk.proofs.marks.Statement.{statement}
-use Rattle.relr_walk.proofs.marks.Tie as tie
-use Rattle.relr_walk.proofs.marks.Reads as reads
-use Rattle.relr_walk.proofs.marks.Lts as lts
+use Rattle.relr_walk.proofs.SkimNeeds.{Tally, tallies}
+use Rattle.relr_walk.proofs.skim.marks.Statement.{statement}
+use Rattle.relr_walk.proofs.skim.marks.Tie as tie
+use Rattle.relr_walk.proofs.skim.marks.Reads as reads
+use Rattle.relr_walk.proofs.skim.marks.Lts as lts
 
 abbrev Inv-loop : tie.InvT-loop
 Inv-loop set bits₀ count₀ bits count = Tally set count bits

@@ -1,12 +1,12 @@
 use lib.ListN.{length}
 use Prim.Native.Nat.{_-_}
-use Rattle.relr_walk.proofs.PassNeeds.{Skimming, skims}
-use Rattle.relr_walk.proofs.skim.Statement.{statement}
-use Rattle.relr_walk.proofs.skim.Tie as tie
-use Rattle.relr_walk.proofs.skim.Reads as reads
-use Rattle.relr_walk.proofs.skim.Lts as lts
-use Rattle.relr_walk.proofs.fence.Reads as fence-reads
-use Rattle.relr_walk.proofs.step.Reads as step-reads
+use Rattle.relr_walk.proofs.SkimNeeds.{Skimming, skims}
+use Rattle.relr_walk.proofs.skim.pass.Statement.{statement}
+use Rattle.relr_walk.proofs.skim.pass.Tie as tie
+use Rattle.relr_walk.proofs.skim.pass.Reads as reads
+use Rattle.relr_walk.proofs.skim.pass.Lts as lts
+use Rattle.relr_walk.proofs.skim.fence.Reads as fence-reads
+use Rattle.relr_walk.proofs.skim.step.Reads as step-reads
 use Rattle.word.proofs.Class.bytes.Reads as bytes-reads
 use Rattle.word.proofs.load.Reads as load-reads
 
@@ -58,8 +58,8 @@ loop-again c = search skims
 returns-2 : tie.Need-returns-2 Inv-loop μ-loop
 returns-2 c = search skims
 
-pub skim-spec : {M : Type 1} → statement M
-skim-spec =
+pub pass-spec : {M : Type 1} → statement M
+pass-spec =
     tie.close
     (tie.spec
     Inv-loop

@@ -1,0 +1,287 @@
+-- The needs of skimming, stated as the code asks them.
+-- Assumes nothing.
+use mathlib.Core.Bool.{Bool, true, false, cond, _&&_}
+use mathlib.Core.List.{List, _∷_, _++_}
+use mathlib.Core.Path.{_≡_, refl, sym, ap, subst, _∙_}
+use Prim.Native.Nat.{ℕ, zero, suc, _+_, _-_, _*_, _/_, _%_, _^_, _≤_, _<_}
+use native.Mathlib.Decide.{ℕ-discrete}
+use native.Mathlib.Nat.{mul-le-mul-right, suc-mul}
+use native.Mathlib.Omega.{arith}
+use lib.ListN.{length, length-append}
+use mir.Syntax.{w64}
+use mir.Val.{Fits}
+use borrow.Author.Needs.{needs}
+use borrow.Author.Tests.{eq-eqb, ne-eqb, lt-ltb, ltb-true, lt-leb, le-leb, leb-true}
+use lib.Dec.{leb, ltb, eqb, lit≤}
+use Rattle.answer.specs.declared.Found.the-variants as found
+use Rattle.answer.specs.Limits.{input-most}
+use Rattle.word.specs.declared.Class.{Class}
+use Rattle.word.specs.declared.Class.the-variants.{Four, Eight}
+use Rattle.word.specs.Class.{bytesOf, windowOf}
+use Rattle.word.specs.Class.Laws.{bytes-least, bytes-most}
+use Rattle.word.specs.Word.{wordAt}
+use Rattle.relr_table.specs.Words.{Where, marked}
+use Rattle.relr_table.specs.Table.{spaceOf, All}
+use Rattle.relr_table.specs.Place.{Place, Stands, inside}
+use Rattle.relr_table.specs.Inner.{marksOf, Marked, Whole, between}
+use Rattle.relr_walk.specs.declared.skim.Passed.{Passed}
+use Rattle.relr_walk.specs.declared.skim.Stepped.{Stepped}
+use Rattle.relr_walk.specs.declared.skim.Stepped.the-variants.{Takes, Stops}
+use Rattle.relr_walk.specs.Inner.{Scanned, Skimmable, Skims, Fence, Cleared, Steps}
+use Rattle.relr_walk.proofs.Leads.{leads-all}
+use Rattle.relr_table.proofs.Marked.{On, all-map, marked-on, marked-most}
+use Rattle.relr_table.proofs.PlaceNeeds.{one-mark, address-marks, bitmap-at, half-fits}
+use Rattle.relr_table.proofs.Passed.{all-fit, standing-load, word-marked, word-done, step-fits, step-less, space-most}
+
+-- ---- the two ends
+module _ (low high x : ℕ) where
+  pub within-low : low ≤ x → ltb x high ≡ between low high x
+  within-low h = rw (le-leb low x h)
+
+  pub within-not : x < low → false ≡ between low high x
+  within-not h = rw (lt-leb low x h)
+
+  -- the test, as a fact
+  between-true : between low high x ≡ true → (low ≤ x) × (x < high)
+  between-true e = go (leb low x) (ltb x high) refl refl e
+    where
+      go : (a b : Bool) → leb low x ≡ a → ltb x high ≡ b → (a && b) ≡ true → (low ≤ x) × (x < high)
+      go true true f g h = (leb-true low x f, ltb-true x high g)
+      go true false f g h = let z : _≡_ {A = ℕ} 0 1 = cc in absurd (omega arith)
+      go false b f g h = let z : _≡_ {A = ℕ} 0 1 = cc in absurd (omega arith)
+
+  true-between : low ≤ x → x < high → between low high x ≡ true
+  true-between l h = rw (le-leb low x l) (lt-ltb x high h)
+
+pub ruleset ends = (within-low, within-not, needs)
+
+-- ---- bitmaps that lie between them
+pub fence-none : (k : Class) (high : ℕ) → Fence k high 0
+fence-none k high u h = absurd (omega arith)
+
+module _ (k : Class) (high width last : ℕ) (e : width ≡ windowOf k * bytesOf k) (g : last + bytesOf k ≡ spaceOf k) where
+  pub fence-last : last < high → Fence k high (last - width)
+  fence-last h u l = (omega arith, omega arith)
+
+  pub fence-high : high ≤ last → Fence k high (high - width)
+  fence-high h u l = (omega arith, omega arith)
+
+  pub fence-room : width ≤ last
+  fence-room = go k e g
+    where
+      go : (j : Class) → width ≡ windowOf j * bytesOf j → last + bytesOf j ≡ spaceOf j → width ≤ last
+      go Four e g = omega arith
+      go Eight e g = omega arith
+
+pub ruleset fences = (fence-none, fence-last, fence-high, fence-room, needs)
+
+-- ---- a bitmap's locations, counted
+unfoldable pub ones : ℕ → ℕ → ℕ
+ones zero b = 0
+ones (suc m) b = b % 2 + ones m (b / 2)
+
+ones-more : (m b : ℕ) → ones (suc m) b ≡ b % 2 + ones m (b / 2)
+unfolding ones
+ones-more m b = refl
+
+ones-none : (m : ℕ) → ones m 0 ≡ 0
+unfolding ones
+ones-none zero = refl
+ones-none (suc m) = omega (arith, ones-none m)
+
+ones-most : (m b : ℕ) → ones m b ≤ m
+unfolding ones
+ones-most zero b = omega arith
+ones-most (suc m) b = omega (arith, ones-most m (b / 2))
+
+-- bits above the highest that is set count for nothing
+ones-wide : (m j b : ℕ) → b < 2 ^ m → b < 2 ^ j → ones m b ≡ ones j b
+unfolding ones
+ones-wide zero j b h g = let e : b ≡ 0 = omega arith in rw e (sym (ones-none j))
+ones-wide (suc m) zero b h g = let e : b ≡ 0 = omega arith in rw e (omega (arith, ones-more m 0, ones-none m))
+ones-wide (suc m) (suc j) b h g = rw (ones-wide m j (b / 2) (omega arith) (omega arith))
+
+marked-ones : (c m b at : ℕ) → length (marked c m b at) ≡ ones m b
+unfolding marked ones
+marked-ones c zero b at = refl
+marked-ones c (suc m) b at = go (ℕ-discrete (b % 2) 1) (marked-ones c m (b / 2) (at + c))
+  where
+    go : Dec (b % 2 ≡ 1) → length (marked c m (b / 2) (at + c)) ≡ ones m (b / 2)
+        → length (cond (eqb (b % 2) 1) (at ∷ marked c m (b / 2) (at + c)) (marked c m (b / 2) (at + c))) ≡ b % 2 + ones m (b / 2)
+    go (yes e) ih = rw (eq-eqb (b % 2) 1 e) (omega (arith, ih))
+    go (no e) ih = rw (ne-eqb (b % 2) 1 e) (omega (arith, ih))
+
+-- so many of the set bits are counted, and the others are left
+pub record Tally (set count bits : ℕ) : Type 0 where
+  pub m : ℕ
+  pub in-width : bits < 2 ^ m
+  pub all : count + ones m bits ≡ ones 64 set
+
+pub tally-begin : (set : ℕ) → set < 2 ^ 64 → Tally set 0 set
+tally-begin set h = record { m = 64; in-width = h; all = omega arith }
+
+module _ {set count bits : ℕ} (t : Tally set count bits) where
+  pub tally-more : (bits ≡ 0 → ⊥) → Tally set (count + bits % 2) (bits / 2)
+  tally-more nz = go (t .m) (t .in-width) (t .all)
+    where
+      go : (m : ℕ) → bits < 2 ^ m → count + ones m bits ≡ ones 64 set → Tally set (count + bits % 2) (bits / 2)
+      go zero h e = absurd (nz (omega arith))
+      go (suc m) h e = record { m = m; in-width = omega arith; all = omega (arith, ones-more m bits) }
+
+  pub tally-fits : (bits ≡ 0 → ⊥) → Fits w64 (count + bits % 2)
+  tally-fits nz = record { fits = omega (arith, tally-more nz .all, ones-most 64 set) }
+
+  pub tally-end : set < 2 ^ 64 → bits ≡ 0 → (c n anchor : ℕ) → set < 2 ^ n → count ≡ length (marked c n set anchor)
+  tally-end h z c n anchor g = omega (arith, t .all, ap (ones (t .m)) z, ones-none (t .m), ones-wide 64 n set h g, marked-ones c n set anchor)
+
+pub ruleset tallies = (tally-begin, tally-fits, tally-more, tally-end, needs)
+
+-- ---- a word that lies between the two ends
+-- each location of a bitmap is its anchor or more, and ends by the window's end
+window-all : (k : Class) (anchor set top : ℕ) → anchor + windowOf k * bytesOf k ≤ top → All (λ x. (anchor ≤ x) × (x + bytesOf k ≤ top)) (marksOf k set anchor)
+window-all k anchor set top h =
+    all-map (On (bytesOf k) (windowOf k) anchor) (λ x. (anchor ≤ x) × (x + bytesOf k ≤ top))
+    (λ x (j, l, e). (omega arith, omega (arith, mul-le-mul-right (bytesOf k) (more l), suc-mul j (bytesOf k))))
+    (marksOf k set anchor) (marked-on (bytesOf k) (windowOf k) set anchor)
+  where
+    more : {j n : ℕ} → j < n → suc j ≤ n
+    more h = omega arith
+
+-- a window is a word or more
+window-some : (k : Class) → bytesOf k ≤ windowOf k * bytesOf k
+window-some Four = lit≤ tt
+window-some Eight = lit≤ tt
+
+module _ {k : Class} {low high clear : ℕ} (f : Fence k high clear) where
+  -- what is marked from an anchor between `low` and the fence
+  clears : {w : Where} {x anchor bits n : ℕ} {next : Place} → Marked k w x anchor bits next → n ≡ length (marksOf k bits anchor) → between low clear anchor ≡ true
+      → Cleared k low high w x n next
+  clears {anchor = anchor} {bits = bits} m e b =
+      let (la, lc) = between-true low clear anchor b in
+      let (in-space, in-high) = f anchor lc in
+      let l = marksOf k bits anchor in
+      record {
+        anchor = anchor;
+        bits = bits;
+        marked = m;
+        counted = e;
+        fits = all-fit (bytesOf k) (spaceOf k) l
+            (all-map (λ y. (anchor ≤ y) × (y + bytesOf k ≤ spaceOf k)) (λ y. y + bytesOf k ≤ spaceOf k) (λ y z. z .1) l (window-all k anchor bits (spaceOf k) (omega arith)));
+        each = all-map (λ y. (anchor ≤ y) × (y + bytesOf k ≤ high)) (λ y. between low high y ≡ true)
+            (λ y z. true-between low high y (omega (arith, z .0)) (omega (arith, z .1, bytes-least k))) l (window-all k anchor bits high in-high);
+      }
+
+module _ (k : Class) (low clear : ℕ) {b : Bool} where
+  pub step-address : {x c : ℕ} → x % 2 ≡ 0 → b ≡ between low clear x → b ≡ true → c ≡ bytesOf k → (p : Place) (high : ℕ) → Fence k high clear
+      → Steps k low high p x (Takes 1 (x + c))
+  step-address {x} {c} even be was ce p high f w s =
+      let t = sym be ∙ was in
+      let (in-space, in-high) = f x (between-true low clear x t .1) in
+      let r = spaceOf k - bytesOf k in
+      clears f
+      (address-marks k x r even (omega (arith, window-some k)) (omega (arith, window-some k)) ce (inside refl (omega (arith, window-some k))) w)
+      (sym (ap length (one-mark k x))) t
+
+  pub step-bitmap : {x d n : ℕ} {p : Place} → (x % 2 ≡ 0 → ⊥) → x < spaceOf k → b ≡ between low clear p → b ≡ true → d ≡ windowOf k * bytesOf k
+      → ((c m u : ℕ) → x / 2 < 2 ^ m → n ≡ length (marked c m (x / 2) u)) → (high : ℕ) → Fence k high clear → Steps k low high p x (Takes n (p + d))
+  step-bitmap {x} {d} {n} {p} odd small be was de tells high f w s =
+      let t = sym be ∙ was in
+      let (in-space, in-high) = f p (between-true low clear p t .1) in
+      let r = spaceOf k - bytesOf k in
+      let h = half-fits k x small in
+      clears f
+      (bitmap-at k p (x / 2) x (omega arith) refl {r = r} (omega (arith, window-some k)) (omega (arith, window-some k)) h de (inside refl (omega arith)) w s)
+      (tells (bytesOf k) (windowOf k) p h) t
+
+  module _ (some : (high : ℕ) × Fence k high clear) (u : ℕ) (be : b ≡ between low clear u) (was : b ≡ true) where
+    pub step-word : {c : ℕ} → c ≡ bytesOf k → Fits w64 (u + c)
+    step-word ce = let (in-space, in-high) = some .1 u (between-true low clear u (sym be ∙ was) .1) in record { fits = omega (arith, window-some k, space-most k, bytes-least k) }
+
+    pub step-stride : {d : ℕ} → d ≡ windowOf k * bytesOf k → Fits w64 (u + d)
+    step-stride de = let (in-space, in-high) = some .1 u (between-true low clear u (sym be ∙ was) .1) in record { fits = omega (arith, space-most k, bytes-least k) }
+
+pub step-stops : (k : Class) (low clear : ℕ) (p : Place) (x high : ℕ) → Fence k high clear → Steps k low high p x Stops
+step-stops k low clear p x high f = tt
+
+pub ruleset steps = (step-address, step-bitmap, step-word, step-stride, step-stops, half-fits, needs)
+
+-- the offsets passed are at most 64 for each word
+module _ {k : Class} {s : List ℕ} {low high at count first : ℕ} {p : Place} (h : Scanned k s low high at p count first) where
+  pub long : Whole k s → at ≤ length s + 8
+  long w = go (h .standing .left) (h .standing .long)
+    where
+      go : (n : ℕ) → length s ≡ at + n * bytesOf k → at ≤ length s + 8
+      go n e = omega arith
+
+  pub scan-load : at < length s → at + bytesOf k ≤ length s
+  scan-load l = standing-load (h .standing) l
+
+  -- a step past a word that lies between the two ends
+  module _ {x n : ℕ} {next : Place} (l : at < length s) (e : x ≡ wordAt (bytesOf k) s at) (o : (w : Where) → Stands k w p → Cleared k low high w x n next) where
+    c : Cleared k low high (h .standing .w) x n next
+    c = o (h .standing .w) (h .standing .stands)
+
+    few-more : n ≤ windowOf k
+    few-more = omega (arith, c .counted, marked-most (bytesOf k) (windowOf k) (c .bits) (c .anchor))
+
+    scan-step : Scanned k s low high (at + bytesOf k) next (count + n) first
+    scan-step =
+        let m = marksOf k (c .bits) (c .anchor) in
+        record {
+          list = h .list ++ m;
+          standing = word-done (word-marked (h .standing) l e (c .marked)) (c .fits);
+          counted = omega (arith, c .counted, h .counted, length-append (h .list) m);
+          lead = leads-all (h .lead) m (c .each);
+          few = omega (arith, few-more, bytes-most k, bytes-least k, h .few);
+        }
+
+    scan-sum : Whole k s → Fits w64 (count + n)
+    scan-sum w = record { fits = omega (arith, few-more, bytes-most k, h .few, long w, w .few, input-most) }
+
+-- ---- words that are skimmed
+pub record Skimming (k : Class) (s : List ℕ) (low high at₀ : ℕ) (p₀ : Place) (count₀ at : ℕ) (p : Place) (count : ℕ) : Type 0 where
+  pub ahead : at₀ ≤ at
+  pub on : (first : ℕ) → Scanned k s low high at₀ p₀ count₀ first → Scanned k s low high at p count first
+
+pub skim-begin : (k : Class) (s : List ℕ) (low high at : ℕ) (p : Place) (count : ℕ) → Skimming k s low high at p count at p count
+skim-begin k s low high at p count = record { ahead = omega arith; on = λ first h. h }
+
+module _ {k : Class} {s : List ℕ} {low high : ℕ} {from : Passed} (a : Skimmable k s low high from) {at count : ℕ} {p : Place} (g : Skimming k s low high (from .at) (from .place) (from .count) at p count) where
+  now : Scanned k s low high at p count (a .first)
+  now = g .on (a .first) (a .scanned)
+
+  pub skim-load : at < length s → at + bytesOf k ≤ length s
+  skim-load l = scan-load now l
+
+  pub skim-end : Skims k s low high from (record { at = at; place = p; count = count })
+  skim-end = record { ahead = g .ahead; on = g .on }
+
+  module _ {clear x n : ℕ} {next : Place} {r : Stepped} (l : at < length s) (e : x ≡ wordAt (bytesOf k) s at) (f : Fence k high clear)
+      (o : (high : ℕ) → Fence k high clear → Steps k low high p x r) (q : r ≡ Takes n next) where
+    steps-on : (w : Where) → Stands k w p → Cleared k low high w x n next
+    steps-on = subst (Steps k low high p x) q (o high f)
+
+    pub skim-sum : Fits w64 (count + n)
+    skim-sum = scan-sum now l e steps-on (a .whole)
+
+    pub skim-on : {c : ℕ} → c ≡ bytesOf k → Skimming k s low high (from .at) (from .place) (from .count) (at + c) next (count + n)
+    skim-on ce = record { ahead = omega (arith, g .ahead); on = λ first h. rw ce (scan-step (g .on first h) l e steps-on) }
+
+pub ruleset skims = (skim-begin, skim-load, skim-end, skim-sum, skim-on, step-fits, step-less, needs)
+
+-- ---- one class by two names
+module _ {k j : Class} (e : k ≡ j) (s : List ℕ) (low high : ℕ) {from : Passed} where
+  pub skimmable-to : Skimmable k s low high from → Skimmable j s low high from
+  skimmable-to h = subst (λ (i : Class). Skimmable i s low high from) e h
+
+  pub skimmable-from : Skimmable j s low high from → Skimmable k s low high from
+  skimmable-from h = subst (λ (i : Class). Skimmable i s low high from) (sym e) h
+
+  module _ {r : Passed} where
+    pub skims-to : Skims k s low high from r → Skims j s low high from r
+    skims-to h = subst (λ (i : Class). Skims i s low high from r) e h
+
+    pub skims-from : Skims j s low high from r → Skims k s low high from r
+    skims-from h = subst (λ (i : Class). Skims i s low high from r) (sym e) h
+
+pub ruleset classes = (skimmable-to, skimmable-from, skims-to, skims-from, needs)

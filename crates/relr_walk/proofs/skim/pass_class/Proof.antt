@@ -1,0 +1,29 @@
+use Rattle.relr_walk.proofs.SkimNeeds.{classes}
+use Rattle.relr_walk.proofs.skim.pass_class.Statement.{statement}
+use Rattle.relr_walk.proofs.skim.pass_class.Tie as tie
+use Rattle.relr_walk.proofs.skim.pass_class.Reads as reads
+use Rattle.relr_walk.proofs.skim.pass_class.Lts as lts
+use Rattle.relr_walk.proofs.skim.pass_by.Reads as pass-by-reads
+
+enum-told : tie.Need-enum-told
+enum-told c = search classes
+
+pass-by-requires : tie.Need-pass-by-requires
+pass-by-requires c κs = search classes
+
+enum-told-2 : tie.Need-enum-told-2
+enum-told-2 c = search classes
+
+pass-by-requires-2 : tie.Need-pass-by-requires-2
+pass-by-requires-2 c κs = search classes
+
+returns : tie.Need-returns
+returns c = search classes
+
+returns-2 : tie.Need-returns-2
+returns-2 c = search classes
+
+pub pass-class-spec : {M : Type 1} → statement M
+pass-class-spec =
+    tie.close
+    (tie.spec enum-told pass-by-requires enum-told-2 pass-by-requires-2 returns returns-2)

@@ -1,0 +1,122 @@
+// Skimming: the words that lie between two ends, with all that a bitmap there can mark, are passed without a look at their bits.
+ghost use mathlib.Core.Path.{_≡_};
+ghost use Prim.Native.Nat.{ℕ, _^_, _<_};
+ghost use lib.ListN.{length};
+ghost use Rattle.relr_table.specs.Words.{marked};
+ghost use Rattle.relr_table.specs.Table.{spaceOf};
+ghost use Rattle.relr_table.specs.Inner.{flagged, between};
+ghost use Rattle.relr_walk.specs.Inner.{Fence, Steps, Skimmable, Skims};
+use relr_table::place;
+use word::Class;
+
+// Whether x is `low` or more, and less than `high`.
+pub fn within(low: u64, high: u64, x: u64) -> bool
+    ensures { λ r. ⌜ r ≡ between low high x ⌝ }
+{
+    if low <= x {
+        return x < high;
+    }
+    false
+}
+
+// A bitmap whose anchor is less than this ends before the last word of the space, and by `high`.
+fn fence(k: Class, high: u64) -> u64
+    ensures { λ r. ⌜ Fence k high r ⌝ }
+{
+    let width = k.stride();
+    let last = k.last();
+    if high < width {
+        return 0;
+    }
+    if last < high {
+        return last - width;
+    }
+    high - width
+}
+
+// How many locations the bits of a bitmap mark, whatever its class.
+fn marks(set: u64) -> u64
+    ensures { λ r. ⌜ ((c n anchor : ℕ) → set < 2 ^ n → r ≡ length (marked c n set anchor)) ⌝ }
+{
+    let mut bits = set;
+    let mut count: u64 = 0;
+    while bits != 0 {
+        count += bits % 2;
+        bits = bits / 2;
+    }
+    count
+}
+
+// A word that is passed, with how many offsets it stands for and the next one's *where*; or one that is not.
+pub enum Stepped {
+    Takes(u64, u64),
+    Stops,
+}
+
+// Passes the word x at a place if a bitmap anchored where it points would lie between the two ends, so that all it marks does.
+fn step(k: Class, low: u64, clear: u64, place: u64, x: u64) -> Stepped
+    requires { ⌜ (x < spaceOf k) × ((high : ℕ) × Fence k high clear) ⌝ }
+    ensures { λ r. ⌜ ((high : ℕ) → Fence k high clear → Steps k low high place x r) ⌝ }
+{
+    if x % 2 == 0 {
+        if within(low, clear, x) {
+            return Stepped::Takes(1, x + k.bytes() as u64);
+        }
+        return Stepped::Stops;
+    }
+    if within(low, clear, place) {
+        return Stepped::Takes(marks(x / 2), place + k.stride());
+    }
+    Stepped::Stops
+}
+
+// How far a walk has come: the next word's byte and its *where*, and how many offsets were passed.
+pub struct Passed {
+    pub at: usize,
+    pub place: u64,
+    pub count: u64,
+}
+
+// Passes the words from here on that lie between the two ends: a comparison with each end for a word, none for a bit.
+fn pass(k: Class, s: &[u8], low: u64, high: u64, from: Passed) -> Passed
+    requires { ⌜ Skimmable k (now s) low high from ⌝ }
+    ensures { λ r. ⌜ Skims k (now (s .entry)) low high from r ⌝ }
+{
+    let c = k.bytes() as usize;
+    let clear = fence(k, high);
+    let mut at = from.at;
+    let mut place = from.place;
+    let mut count = from.count;
+    while at < s.len() {
+        let stepped = step(k, low, clear, place, word::load(k, s, at));
+        match stepped {
+            Stepped::Stops => {
+                return Passed { at, place, count };
+            }
+            Stepped::Takes(n, next) => {
+                count += n;
+                place = next;
+                at += c;
+            }
+        }
+    }
+    Passed { at, place, count }
+}
+
+// The same by a flag for the class and for each class, so that the compiler makes a loop for each.
+fn pass_by(wide: bool, s: &[u8], low: u64, high: u64, from: Passed) -> Passed
+    requires { ⌜ Skimmable (flagged wide) (now s) low high from ⌝ }
+    ensures { λ r. ⌜ Skims (flagged wide) (now (s .entry)) low high from r ⌝ }
+{
+    pass(place::chosen(wide), s, low, high, from)
+}
+
+pub fn pass_class(k: Class, s: &[u8], low: u64, high: u64, from: Passed) -> Passed
+    requires { ⌜ Skimmable k (now s) low high from ⌝ }
+    ensures { λ r. ⌜ Skims k (now (s .entry)) low high from r ⌝ }
+{
+    match k {
+        Class::Four => pass_by(false, s, low, high, from),
+        Class::Eight => pass_by(true, s, low, high, from),
+    }
+}
