@@ -26,7 +26,7 @@ use Rattle.relr_table.specs.Place.{Place, Stands, inside}
 use Rattle.relr_table.specs.Inner.{marksOf, Marked, Whole, between}
 use Rattle.relr_walk.specs.declared.skim.Passed.{Passed}
 use Rattle.relr_walk.specs.declared.skim.Stepped.{Stepped}
-use Rattle.relr_walk.specs.declared.skim.Stepped.the-variants.{Takes, Stops}
+use Rattle.relr_walk.specs.declared.skim.Stepped.the-variants.{One, Many, Stops}
 use Rattle.relr_walk.specs.Inner.{Scanned, Skimmable, Skims, Fence, Cleared, Steps}
 use Rattle.relr_walk.proofs.Leads.{leads-all}
 use Rattle.relr_table.proofs.Marked.{On, all-map, marked-on, marked-most}
@@ -173,7 +173,7 @@ module _ {k : Class} {low high clear : ℕ} (f : Fence k high clear) where
 
 module _ (k : Class) (low clear : ℕ) {b : Bool} where
   pub step-address : {x c : ℕ} → x % 2 ≡ 0 → b ≡ between low clear x → b ≡ true → c ≡ bytesOf k → (p : Place) (high : ℕ) → Fence k high clear
-      → Steps k low high p x (Takes 1 (x + c))
+      → Steps k low high p x (One (x + c))
   step-address {x} {c} even be was ce p high f w s =
       let t = sym be ∙ was in
       let (in-space, in-high) = f x (between-true low clear x t .1) in
@@ -183,7 +183,7 @@ module _ (k : Class) (low clear : ℕ) {b : Bool} where
       (sym (ap length (one-mark k x))) t
 
   pub step-bitmap : {x d n : ℕ} {p : Place} → (x % 2 ≡ 0 → ⊥) → x < spaceOf k → b ≡ between low clear p → b ≡ true → d ≡ windowOf k * bytesOf k
-      → ((c m u : ℕ) → x / 2 < 2 ^ m → n ≡ length (marked c m (x / 2) u)) → (high : ℕ) → Fence k high clear → Steps k low high p x (Takes n (p + d))
+      → ((c m u : ℕ) → x / 2 < 2 ^ m → n ≡ length (marked c m (x / 2) u)) → (high : ℕ) → Fence k high clear → Steps k low high p x (Many n (p + d))
   step-bitmap {x} {d} {n} {p} odd small be was de tells high f w s =
       let t = sym be ∙ was in
       let (in-space, in-high) = f p (between-true low clear p t .1) in
@@ -256,18 +256,34 @@ module _ {k : Class} {s : List ℕ} {low high : ℕ} {from : Passed} (a : Skimma
   pub skim-end : Skims k s low high from (record { at = at; place = p; count = count })
   skim-end = record { ahead = g .ahead; on = g .on }
 
-  module _ {clear x n : ℕ} {next : Place} {r : Stepped} (l : at < length s) (e : x ≡ wordAt (bytesOf k) s at) (f : Fence k high clear)
-      (o : (high : ℕ) → Fence k high clear → Steps k low high p x r) (q : r ≡ Takes n next) where
-    steps-on : (w : Where) → Stands k w p → Cleared k low high w x n next
-    steps-on = subst (Steps k low high p x) q (o high f)
+  -- a word that was passed
+  further : {c x n : ℕ} {next : Place} → at < length s → x ≡ wordAt (bytesOf k) s at → ((w : Where) → Stands k w p → Cleared k low high w x n next) → c ≡ bytesOf k
+      → Skimming k s low high (from .at) (from .place) (from .count) (at + c) next (count + n)
+  further l e z ce = record { ahead = omega (arith, g .ahead); on = λ first h. rw ce (scan-step (g .on first h) l e z) }
 
-    pub skim-sum : Fits w64 (count + n)
-    skim-sum = scan-sum now l e steps-on (a .whole)
+  module _ {clear x : ℕ} {next : Place} {r : Stepped} (l : at < length s) (e : x ≡ wordAt (bytesOf k) s at) (f : Fence k high clear)
+      (o : (high : ℕ) → Fence k high clear → Steps k low high p x r) where
+    module _ (q : r ≡ One next) where
+      one : (w : Where) → Stands k w p → Cleared k low high w x 1 next
+      one = subst (Steps k low high p x) q (o high f)
 
-    pub skim-on : {c : ℕ} → c ≡ bytesOf k → Skimming k s low high (from .at) (from .place) (from .count) (at + c) next (count + n)
-    skim-on ce = record { ahead = omega (arith, g .ahead); on = λ first h. rw ce (scan-step (g .on first h) l e steps-on) }
+      pub one-sum : Fits w64 (count + 1)
+      one-sum = scan-sum now l e one (a .whole)
 
-pub ruleset skims = (skim-begin, skim-load, skim-end, skim-sum, skim-on, step-fits, step-less, needs)
+      pub one-on : {c : ℕ} → c ≡ bytesOf k → Skimming k s low high (from .at) (from .place) (from .count) (at + c) next (count + 1)
+      one-on ce = further l e one ce
+
+    module _ {n : ℕ} (q : r ≡ Many n next) where
+      many : (w : Where) → Stands k w p → Cleared k low high w x n next
+      many = subst (Steps k low high p x) q (o high f)
+
+      pub many-sum : Fits w64 (count + n)
+      many-sum = scan-sum now l e many (a .whole)
+
+      pub many-on : {c : ℕ} → c ≡ bytesOf k → Skimming k s low high (from .at) (from .place) (from .count) (at + c) next (count + n)
+      many-on ce = further l e many ce
+
+pub ruleset skims = (skim-begin, skim-load, skim-end, one-sum, one-on, many-sum, many-on, step-fits, step-less, needs)
 
 -- ---- one class by two names
 module _ {k j : Class} (e : k ≡ j) (s : List ℕ) (low high : ℕ) {from : Passed} where

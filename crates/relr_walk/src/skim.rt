@@ -47,9 +47,10 @@ fn marks(set: u64) -> u64
     count
 }
 
-// A word that is passed, with how many offsets it stands for and the next one's *where*; or one that is not.
+// A word that is passed, with the next one's *where*: an address, or a bitmap with how many offsets it stands for; or one that is not.
 pub enum Stepped {
-    Takes(u64, u64),
+    One(u64),
+    Many(u64, u64),
     Stops,
 }
 
@@ -60,12 +61,12 @@ fn step(k: Class, low: u64, clear: u64, place: u64, x: u64) -> Stepped
 {
     if x % 2 == 0 {
         if within(low, clear, x) {
-            return Stepped::Takes(1, x + k.bytes() as u64);
+            return Stepped::One(x + k.bytes() as u64);
         }
         return Stepped::Stops;
     }
     if within(low, clear, place) {
-        return Stepped::Takes(marks(x / 2), place + k.stride());
+        return Stepped::Many(marks(x / 2), place + k.stride());
     }
     Stepped::Stops
 }
@@ -93,7 +94,12 @@ fn pass(k: Class, s: &[u8], low: u64, high: u64, from: Passed) -> Passed
             Stepped::Stops => {
                 return Passed { at, place, count };
             }
-            Stepped::Takes(n, next) => {
+            Stepped::One(next) => {
+                count += 1;
+                place = next;
+                at += c;
+            }
+            Stepped::Many(n, next) => {
                 count += n;
                 place = next;
                 at += c;

@@ -55,6 +55,21 @@ loop-less c = search skims
 loop-again : tie.Need-loop-again Inv-loop μ-loop
 loop-again c = search skims
 
+enum-known-stepped-2 : tie.Need-enum-known-stepped-2 Inv-loop μ-loop
+enum-known-stepped-2 c = search skims
+
+add-count-2 : tie.Need-add-count-2 Inv-loop μ-loop
+add-count-2 c = search skims
+
+add-at-2 : tie.Need-add-at-2 Inv-loop μ-loop
+add-at-2 c = search skims
+
+loop-less-2 : tie.Need-loop-less-2 Inv-loop μ-loop
+loop-less-2 c = search skims
+
+loop-again-2 : tie.Need-loop-again-2 Inv-loop μ-loop
+loop-again-2 c = search skims
+
 returns-2 : tie.Need-returns-2 Inv-loop μ-loop
 returns-2 c = search skims
 
@@ -77,4 +92,9 @@ pass-spec =
     add-at
     loop-less
     loop-again
+    enum-known-stepped-2
+    add-count-2
+    add-at-2
+    loop-less-2
+    loop-again-2
     returns-2)
