@@ -13,7 +13,6 @@ use mir.Val.{Fits}
 use borrow.Author.Needs.{needs}
 use borrow.Author.Tests.{eq-eqb, ne-eqb, lt-ltb, ltb-true, lt-leb, le-leb, leb-true}
 use lib.Dec.{leb, ltb, eqb, lit≤}
-use Rattle.answer.specs.declared.Found.the-variants as found
 use Rattle.answer.specs.Limits.{input-most}
 use Rattle.word.specs.declared.Class.{Class}
 use Rattle.word.specs.declared.Class.the-variants.{Four, Eight}
