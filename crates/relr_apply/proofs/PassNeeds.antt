@@ -3,10 +3,12 @@
 use mathlib.Core.Bool.{Bool, true, false}
 use mathlib.Core.List.{List, [], _∷_, _++_}
 use mathlib.Core.Path.{_≡_, refl, sym, ap, subst, _∙_}
-use Prim.Native.Nat.{ℕ, _+_, _-_, _/_, _%_, _^_, _≤_, _<_}
+use Prim.Native.Nat.{ℕ, _+_, _-_, _*_, _/_, _%_, _^_, _≤_, _<_}
 use native.Mathlib.Omega.{arith}
 use native.Mathlib.Decide.{decLe}
 use lib.Dec.{leb, ltb}
+use lib.Bits.{bitAnd}
+use lib.Count.{trailingZeros}
 use lib.ListN.{length}
 use mir.Syntax.{w64}
 use mir.Val.{Fits}
@@ -22,19 +24,18 @@ use Rattle.answer.specs.Outcome.{Outcome, accepted, refused, foundOf, success, 
 use Rattle.answer.specs.Outcome.Laws.{accepted-refused, Counted, found-count, not-found, answer-all, answer-none}
 use Rattle.word.specs.declared.Class.{Class}
 use Rattle.word.specs.declared.Class.the-variants.{Four, Eight}
-use Rattle.word.specs.Class.{bytesOf, bitsOf}
+use Rattle.word.specs.Class.{bytesOf, bitsOf, windowOf}
 use Rattle.word.specs.Class.Laws.{bytes-least}
 use Rattle.word.specs.Word.{wordAt, withWord}
 use Rattle.relr_table.specs.Table.{spaceOf, decode, inside, Inside, All, contained, targets, indexes, added, patched, above}
 use Rattle.relr_table.specs.Contract.{changed, AppliesIn}
-use Rattle.relr_table.specs.Place.{Place, Nowhere}
-use Rattle.relr_table.specs.declared.place.Opened.{Opened}
-use Rattle.relr_table.specs.declared.place.Opened.the-variants.{Address, Marks, Refused}
-use Rattle.relr_table.specs.Inner.{marksOf, OpensAt, between, Standing}
+use Rattle.relr_table.specs.Inner.{marksOf, full, between}
 use Rattle.relr_apply.specs.Inner.{Patchable, Targeted, Patched, End}
 use Rattle.relr_table.proofs.Marked.{all-left, all-right}
 use Rattle.relr_table.proofs.PlaceNeeds.{one-mark}
-use Rattle.relr_table.proofs.Passed.{standing-begin, standing-load, standing-end, Word, word-refused, word-marks, word-one, word-done, word-good, Marking, marking-begin, marking-head, marking-set, marking-clear, marking-end, mark-dist, mark-fits, step-fits, step-less, space-most}
+use Rattle.relr_table.proofs.Passed.{step-fits, step-less, space-most}
+use Rattle.relr_table.proofs.SetBits.{Next, Left, left-begin, left-end, left-head, left-next, left-fits, next-zeros, next-full, full-none, far-small, run-bit, run-less, zeros-fit, zeros-far, zeros-less}
+use Rattle.relr_table.proofs.Following.{Following, Followed, following-begin, following-load, following-end, follow-address, follow-bitmap}
 use Rattle.relr_table.proofs.Decoding.{decode-good, contained-space}
 use Rattle.relr_table.proofs.Applying.{patched-length, patched-more, patched-one, targets-over, targets-in, targets-accepted}
 
@@ -45,127 +46,195 @@ unfolding added
 adds k image new x base e f g = g ∙ rw (f, e)
 
 -- ---- a word's locations
-pub record Patching (k : Class) (old : List ℕ) (base start anchor set : ℕ) (image : List ℕ) (bits d : ℕ) : Type 0 where
+pub record Patching (k : Class) (old : List ℕ) (base start anchor set : ℕ) (image : List ℕ) (bits : ℕ) : Type 0 where
   pub p : List ℕ
-  pub j : ℕ
-  pub marking : Marking k anchor set j bits d p
+  pub left : Left k anchor set bits p
   pub held : image ≡ patched (bytesOf k) base (indexes start p) old
 
 module _ {k : Class} {old : List ℕ} {base start anchor set : ℕ} (m : Patchable k start old anchor set) where
-  pub patching-begin : Patching k old base start anchor set old set 0
+  pub patching-begin : Patching k old base start anchor set old set
   unfolding patched indexes
-  patching-begin = record { p = []; j = 0; marking = marking-begin k anchor set (m .in-window); held = refl }
+  patching-begin = record { p = []; left = left-begin k anchor set (m .in-window); held = refl }
 
-  module _ {image : List ℕ} {bits d : ℕ} (g : Patching k old base start anchor set image bits d) where
+  module _ {image : List ℕ} {bits : ℕ} (g : Patching k old base start anchor set image bits) where
     pub patching-long : length image ≡ length old
     patching-long = ap length (g .held) ∙ patched-length (bytesOf k) base (indexes start (g .p)) old
 
     pub patching-end : bits ≡ 0 → image ≡ patched (bytesOf k) base (indexes start (marksOf k set anchor)) old
-    patching-end z = let e = marking-end (g .marking) z in rw e (g .held)
+    patching-end z = let e = left-end (g .left) z in rw e (g .held)
 
-    module _ (nz : bits ≡ 0 → ⊥) where
-      pub patching-dist : (c : ℕ) → c ≡ bytesOf k → Fits w64 (d + c)
-      patching-dist c ce = mark-dist (g .marking) nz c ce
+    module _ {t rest c : ℕ} (n : Next k anchor bits t rest) (ce : c ≡ bytesOf k) where
+      here : Inside (bytesOf k) start (length old) (anchor + t * bytesOf k)
+      here =
+          all-right (Inside (bytesOf k) start (length old)) (g .p) ((anchor + t * bytesOf k) ∷ marksOf k rest anchor)
+          (subst (All (Inside (bytesOf k) start (length old))) (left-head (g .left) n) (m .in-image)) .0
 
-      pub patching-clear : (c : ℕ) → c ≡ bytesOf k → (bits % 2 ≡ 1 → ⊥) → Patching k old base start anchor set image (bits / 2) (d + c)
-      patching-clear c ce o = record { p = g .p; j = g .j + 1; marking = marking-clear (g .marking) nz ce (omega arith); held = g .held }
+      next-low : start ≤ anchor + t * c
+      next-low = rw ce (here .0)
 
-      module _ (o : bits % 2 ≡ 1) where
-        inside-here : Inside (bytesOf k) start (length old) (anchor + d)
-        inside-here =
-            let (q, e) = marking-head (g .marking) nz o in
-            all-right (Inside (bytesOf k) start (length old)) (g .p) ((anchor + d) ∷ q) (rw e at (m .in-image)) .0
+      next-in : anchor + t * c - start + bytesOf k ≤ length image
+      next-in = rw (ce, patching-long) (here .1)
 
-        pub patching-low : start ≤ anchor + d
-        patching-low = inside-here .0
+      next-fits : Fits w64 (anchor + t * c)
+      next-fits = rw ce (left-fits (g .left) n (m .in-space))
 
-        pub patching-in : anchor + d - start + bytesOf k ≤ length image
-        patching-in = rw patching-long (inside-here .1)
+      next-set : {new : List ℕ} → new ≡ added (bytesOf k) base image (anchor + t * c - start) → Patching k old base start anchor set new rest
+      next-set {new} e =
+          let x = anchor + t * bytesOf k in
+          record {
+            p = g .p ++ x ∷ [];
+            left = left-next (g .left) n;
+            held = (rw ce at e) ∙ rw (g .held, patched-more) (sym (patched-one (bytesOf k) base start x (patched (bytesOf k) base (indexes start (g .p)) old)));
+          }
 
-        pub patching-fits : Fits w64 (anchor + d)
-        patching-fits = mark-fits (g .marking) nz (m .in-space) o
+    -- by trailing zeros
+    module _ {c : ℕ} (nz : bits ≡ 0 → ⊥) (ce : c ≡ bytesOf k) where
+      zeros : Next k anchor bits (trailingZeros 64 bits) (bitAnd bits (bits - 1))
+      zeros = next-zeros k anchor bits nz (g .left .small)
 
-        pub patching-set : (c : ℕ) {new : List ℕ} → c ≡ bytesOf k → new ≡ added (bytesOf k) base image (anchor + d - start)
-            → Patching k old base start anchor set new (bits / 2) (d + c)
-        patching-set c ce e =
-            record {
-              p = g .p ++ (anchor + d) ∷ [];
-              j = g .j + 1;
-              marking = marking-set (g .marking) nz ce o;
-              held = e ∙ rw (g .held, patched-more) (sym (patched-one (bytesOf k) base start (anchor + d) (patched (bytesOf k) base (indexes start (g .p)) old)));
-            }
+      pub zeros-low : start ≤ anchor + trailingZeros 64 bits * c
+      zeros-low = next-low zeros ce
 
-pub ruleset patchings = (adds, patching-begin, patching-long, patching-end, patching-dist, patching-clear, patching-low, patching-in, patching-fits, patching-set, needs)
+      pub zeros-in : anchor + trailingZeros 64 bits * c - start + bytesOf k ≤ length image
+      zeros-in = next-in zeros ce
+
+      pub zeros-fits : Fits w64 (anchor + trailingZeros 64 bits * c)
+      zeros-fits = next-fits zeros ce
+
+      pub zeros-set : {new : List ℕ} → new ≡ added (bytesOf k) base image (anchor + trailingZeros 64 bits * c - start)
+          → Patching k old base start anchor set new (bitAnd bits (bits - 1))
+      zeros-set = next-set zeros ce
+
+pub ruleset patchings = (adds, patching-begin, patching-long, patching-end, zeros-low, zeros-in, zeros-fits, zeros-set, zeros-fit, zeros-far, zeros-less, needs)
+
+-- where all bits are set
+pub record Running (k : Class) (old : List ℕ) (base start anchor n : ℕ) (image : List ℕ) (j : ℕ) : Type 0 where
+  pub window : n ≡ windowOf k
+  pub within : j ≤ n
+  pub patching : Patching k old base start anchor (full k) image (2 ^ windowOf k - 2 ^ j)
+
+module _ {k : Class} {old : List ℕ} {base start anchor n : ℕ} (m : Patchable k start old anchor (full k)) where
+  pub running-begin : n ≡ windowOf k → Running k old base start anchor n old 0
+  running-begin ne = record { window = ne; within = omega arith; patching = patching-begin m }
+
+  module _ {image : List ℕ} {j : ℕ} (g : Running k old base start anchor n image j) where
+    pub running-long : length image ≡ length old
+    running-long = patching-long m (g .patching)
+
+    pub running-end : n ≤ j → image ≡ patched (bytesOf k) base (indexes start (marksOf k (full k) anchor)) old
+    running-end l = patching-end m (g .patching) (full-none k j (omega (arith, g .within, g .window)))
+
+    module _ {c : ℕ} (l : j < n) (ce : c ≡ bytesOf k) where
+      step : Next k anchor (2 ^ windowOf k - 2 ^ j) j (2 ^ windowOf k - 2 ^ (j + 1))
+      step = next-full k anchor j (omega (arith, g .window))
+
+      pub running-far : Fits w64 (j * c)
+      running-far = far-small k j (step .within) ce
+
+      pub running-low : start ≤ anchor + j * c
+      running-low = next-low m (g .patching) step ce
+
+      pub running-in : anchor + j * c - start + bytesOf k ≤ length image
+      running-in = next-in m (g .patching) step ce
+
+      pub running-fits : Fits w64 (anchor + j * c)
+      running-fits = next-fits m (g .patching) step ce
+
+      pub running-set : {new : List ℕ} → new ≡ added (bytesOf k) base image (anchor + j * c - start) → Running k old base start anchor n new (j + 1)
+      running-set e = record { window = g .window; within = omega arith; patching = next-set m (g .patching) step ce e }
+
+pub ruleset runnings = (running-begin, running-long, running-end, running-far, running-low, running-in, running-fits, running-set, run-bit, run-less, needs)
+
+-- which it is
+module _ (k : Class) {set r : ℕ} (e : set ≡ r) (g : r ≡ full k) where
+  pub bitmap-run : {image : List ℕ} {start anchor : ℕ} → Patchable k start image anchor set → Patchable k start image anchor (full k)
+  bitmap-run {image} {start} {anchor} = subst (λ (b : ℕ). Patchable k start image anchor b) (e ∙ g)
+
+  pub bitmap-ran : (old : List ℕ) {new : List ℕ} (base start anchor : ℕ) → new ≡ patched (bytesOf k) base (indexes start (marksOf k (full k) anchor)) old
+      → new ≡ patched (bytesOf k) base (indexes start (marksOf k set anchor)) old
+  bitmap-ran old {new} base start anchor = subst (λ (b : ℕ). new ≡ patched (bytesOf k) base (indexes start (marksOf k b anchor)) old) (sym (e ∙ g))
+
+pub ruleset bitmaps = (bitmap-run, bitmap-ran, needs)
 
 -- ---- a table's words
-pub record Working (k : Class) (s old : List ℕ) (base start at : ℕ) (p : Place) (image : List ℕ) : Type 0 where
+pub record Working (k : Class) (s old : List ℕ) (base start at p : ℕ) (image : List ℕ) : Type 0 where
   pub list : List ℕ
-  pub standing : Standing k s list at p
+  pub following : Following k s list at p
   pub held : image ≡ patched (bytesOf k) base (indexes start list) old
 
 module _ {k : Class} {s old : List ℕ} {base start : ℕ} (f : Targeted k s start old) where
-  pub working-begin : Working k s old base start 0 Nowhere old
+  pub working-begin : Working k s old base start 0 0 old
   unfolding patched indexes
-  working-begin = record { list = []; standing = standing-begin k s (f .good .whole); held = refl }
+  working-begin = record { list = []; following = following-begin k s (f .good .whole); held = refl }
 
-  module _ {at : ℕ} {p : Place} {image : List ℕ} (g : Working k s old base start at p image) where
+  module _ {at p : ℕ} {image : List ℕ} (g : Working k s old base start at p image) where
     pub working-long : length image ≡ length old
     working-long = ap length (g .held) ∙ patched-length (bytesOf k) base (indexes start (g .list)) old
 
     pub working-end : length s ≤ at → Patched k s base start old image
-    working-end h l e = let q : l ≡ g .list = cc (standing-end (g .standing) h) in g .held ∙ rw q
+    working-end h l e = let q : l ≡ g .list = cc (following-end (g .following) h) in g .held ∙ rw q
 
-    module _ {anchor set : ℕ} {next : Place} (word : Word k s (g .list) at anchor set next) where
+    module _ {anchor set next : ℕ} (word : Followed k s (g .list) (f .good .list) at anchor set next) where
       in-image : All (Inside (bytesOf k) start (length image)) (marksOf k set anchor)
       in-image =
-          let a = word-good word (f .good .is) in
+          let a = word .among in
           let P = Inside (bytesOf k) start (length old) in
           rw working-long (all-right P (g .list) (marksOf k set anchor) (all-left P (g .list ++ marksOf k set anchor) (a .rest) (rw (a .whole) at (f .in-image))))
 
-      more : {new : List ℕ} {c : ℕ} → c ≡ bytesOf k → new ≡ patched (bytesOf k) base (indexes start (marksOf k set anchor)) image → Working k s old base start (at + c) next new
-      more {new} {c} ce u =
-          record {
-            list = g .list ++ marksOf k set anchor;
-            standing = subst (λ (b : ℕ). Standing k s (g .list ++ marksOf k set anchor) (at + b) next) (sym ce) (word-done word (word-good word (f .good .is) .fits));
-            held = u ∙ rw (g .held, patched-more);
-          }
+      more : {new : List ℕ} {c q : ℕ} → c ≡ bytesOf k → q ≡ next → new ≡ patched (bytesOf k) base (indexes start (marksOf k set anchor)) image
+          → Working k s old base start (at + c) q new
+      more ce qe u = rw (ce, qe) (record { list = g .list ++ marksOf k set anchor; following = word .on; held = u ∙ rw (g .held, patched-more) })
 
-    module _ {x : ℕ} {r : Opened} (l : at < length s) (e : x ≡ wordAt (bytesOf k) s at) (o : OpensAt k p x r) where
-      pub working-not : {why : Refusal} {new : List ℕ} → r ≡ Refused why → Patched k s base start old new
-      working-not q = absurd (accepted-refused (f .good .is) (word-refused (g .standing) l e o q))
+    module _ {x : ℕ} (l : at < length s) (e : x ≡ wordAt (bytesOf k) s at) where
+      module _ (even : x % 2 ≡ 0) where
+        alone : Followed k s (g .list) (f .good .list) at x 1 ((x + bytesOf k) % 2 ^ 64)
+        alone = follow-address (g .following) (f .good .is) l e even
 
-      module _ {y : ℕ} {next : Place} (q : r ≡ Address y next) where
-        alone : Word k s (g .list) at y 1 next
-        alone = word-one (g .standing) l e o q
+        word-inside : Inside (bytesOf k) start (length image) x
+        word-inside = let h : All (Inside (bytesOf k) start (length image)) (x ∷ []) = rw (one-mark k x) at (in-image alone) in h .0
 
-        word-inside : Inside (bytesOf k) start (length image) y
-        word-inside = let h : All (Inside (bytesOf k) start (length image)) (y ∷ []) = rw (one-mark k y) at (in-image alone) in h .0
-
-        pub working-low : start ≤ y
+        pub working-low : start ≤ x
         working-low = word-inside .0
 
-        pub working-in : y - start + bytesOf k ≤ length image
+        pub working-in : x - start + bytesOf k ≤ length image
         working-in = word-inside .1
 
-        pub working-one : {new : List ℕ} {c : ℕ} → c ≡ bytesOf k → new ≡ added (bytesOf k) base image (y - start) → Working k s old base start (at + c) next new
-        working-one ce u = more alone ce (u ∙ rw (one-mark k y) (sym (patched-one (bytesOf k) base start y image)))
+        pub working-one : {new : List ℕ} {c q : ℕ} → c ≡ bytesOf k → q ≡ (x + c) % 2 ^ 64 → new ≡ added (bytesOf k) base image (x - start) → Working k s old base start (at + c) q new
+        working-one ce qe u = more alone ce (qe ∙ rw ce) (u ∙ rw (one-mark k x) (sym (patched-one (bytesOf k) base start x image)))
 
-      module _ {anchor set : ℕ} {next : Place} (q : r ≡ Marks anchor set next) where
-        word : Word k s (g .list) at anchor set next
-        word = word-marks (g .standing) l e o q
+      module _ (small : x < spaceOf k) (odd : x % 2 ≡ 0 → ⊥) where
+        word : Followed k s (g .list) (f .good .list) at p (x / 2) ((p + windowOf k * bytesOf k) % 2 ^ 64)
+        word = follow-bitmap (g .following) (f .good .is) l e small odd
 
-        pub working-marks : Patchable k start image anchor set
-        working-marks = record { in-window = word .in-window; in-space = word-good word (f .good .is) .fits; in-image = in-image word }
+        pub working-marks : Patchable k start image p (x / 2)
+        working-marks = record { in-window = word .in-window; in-space = word .among .fits; in-image = in-image word }
 
-        pub working-more : {new : List ℕ} {c : ℕ} → c ≡ bytesOf k → new ≡ patched (bytesOf k) base (indexes start (marksOf k set anchor)) image
-            → Working k s old base start (at + c) next new
-        working-more ce u = more word ce u
+        pub working-more : {new : List ℕ} {c d q : ℕ} → c ≡ bytesOf k → d ≡ windowOf k * bytesOf k → q ≡ (p + d) % 2 ^ 64
+            → new ≡ patched (bytesOf k) base (indexes start (marksOf k (x / 2) p)) image → Working k s old base start (at + c) q new
+        working-more ce de qe u = more word ce (qe ∙ rw de) u
 
-module _ {k : Class} {s old : List ℕ} {base start at : ℕ} {p : Place} {image : List ℕ} (g : Working k s old base start at p image) where
+module _ {k : Class} {s old : List ℕ} {base start at p : ℕ} {image : List ℕ} (g : Working k s old base start at p image) where
   pub working-load : at < length s → at + bytesOf k ≤ length s
-  working-load l = standing-load (g .standing) l
+  working-load l = following-load (g .following) l
 
-pub ruleset workings = (working-begin, working-long, working-end, working-not, working-low, working-in, working-one, working-marks, working-more, working-load, step-fits, step-less, needs)
+pub ruleset workings = (working-begin, working-long, working-end, working-low, working-in, working-one, working-marks, working-more, working-load, step-fits, step-less, needs)
+
+-- ---- one class by two names
+module _ {k j : Class} (e : k ≡ j) (s old : List ℕ) (start : ℕ) where
+  pub targeted-to : Targeted k s start old → Targeted j s start old
+  targeted-to h = subst (λ (i : Class). Targeted i s start old) e h
+
+  pub targeted-from : Targeted j s start old → Targeted k s start old
+  targeted-from h = subst (λ (i : Class). Targeted i s start old) (sym e) h
+
+  module _ (base : ℕ) {new : List ℕ} where
+    pub patched-to : Patched k s base start old new → Patched j s base start old new
+    patched-to h = subst (λ (i : Class). Patched i s base start old new) e h
+
+    pub patched-from : Patched j s base start old new → Patched k s base start old new
+    patched-from h = subst (λ (i : Class). Patched i s base start old new) (sym e) h
+
+pub ruleset classes = (targeted-to, targeted-from, patched-to, patched-from, needs)
 
 -- ---- the end of an image
 module _ (k : Class) (start size : ℕ) where

@@ -5,13 +5,12 @@ ghost use lib.ListN.{length};
 ghost use Rattle.word.specs.Class.{bytesOf};
 ghost use Rattle.relr_table.specs.Table.{above, indexes, added, patched};
 ghost use Rattle.relr_table.specs.Contract.{AppliesIn};
-ghost use Rattle.relr_table.specs.Inner.{marksOf};
+ghost use Rattle.relr_table.specs.Inner.{flagged, marksOf, full};
 ghost use Rattle.relr_apply.specs.Inner.{Patchable, Targeted, Patched, End};
 use answer::Answer;
 use answer::Found;
 use answer::Refusal;
 use relr_table::place;
-use relr_table::place::Opened;
 use word::Class;
 
 // Adds the base to the word at x.
@@ -29,40 +28,78 @@ fn patch_marks(k: Class, image: &mut [u8], base: u64, start: u64, anchor: u64, s
     ensures { λ _. ⌜ now (image .exit) ≡ patched (bytesOf k) base (indexes start (marksOf k set anchor)) (now (image .entry)) ⌝ }
 {
     let mut bits = set;
-    let mut d: u64 = 0;
     while bits != 0 {
-        if bits % 2 == 1 {
-            add_at(k, &mut *image, (anchor + d - start) as usize, base);
-        }
-        bits = bits / 2;
-        d += k.bytes() as u64;
+        let zeros = u64::trailing_zeros(bits) as u64;
+        let x = anchor + zeros * (k.bytes() as u64);
+        add_at(k, &mut *image, (x - start) as usize, base);
+        bits = bits & (bits - 1);
     }
 }
 
-// The second pass, over a table that the first accepted, whose words all lie inside the image.
+// The same where all bits are set. (The compiler makes the loop wide.)
+fn patch_run(k: Class, image: &mut [u8], base: u64, start: u64, anchor: u64)
+    requires { ⌜ Patchable k start (now image) anchor (full k) ⌝ }
+    ensures { λ _. ⌜ now (image .exit) ≡ patched (bytesOf k) base (indexes start (marksOf k (full k) anchor)) (now (image .entry)) ⌝ }
+{
+    let n = k.window() as u64;
+    let mut j: u64 = 0;
+    while j < n {
+        let x = anchor + j * (k.bytes() as u64);
+        add_at(k, &mut *image, (x - start) as usize, base);
+        j += 1;
+    }
+}
+
+// Either.
+fn patch_bitmap(k: Class, image: &mut [u8], base: u64, start: u64, anchor: u64, set: u64)
+    requires { ⌜ Patchable k start (now image) anchor set ⌝ }
+    ensures { λ _. ⌜ now (image .exit) ≡ patched (bytesOf k) base (indexes start (marksOf k set anchor)) (now (image .entry)) ⌝ }
+{
+    if set == place::filled(k) {
+        patch_run(k, image, base, start, anchor);
+    } else {
+        patch_marks(k, image, base, start, anchor, set);
+    }
+}
+
+// The second pass, over a table that the first accepted, whose words all lie inside the image: where the next bitmap's first location is
+// wraps, as no offset is there.
 fn patch(k: Class, s: &[u8], base: u64, start: u64, image: &mut [u8])
     requires { ⌜ Targeted k (now s) start (now image) ⌝ }
     ensures { λ _. ⌜ Patched k (now (s .entry)) base start (now (image .entry)) (now (image .exit)) ⌝ }
 {
     let c = k.bytes() as usize;
+    let stride = k.stride();
     let mut at: usize = 0;
-    let mut place = place::NOWHERE;
+    let mut place: u64 = 0;
     while at < s.len() {
-        let opened = place::open(k, place, word::load(k, s, at));
+        let x = word::load(k, s, at);
         at += c;
-        match opened {
-            Opened::Refused(_) => {
-                return;
-            }
-            Opened::Address(x, next) => {
-                add_at(k, &mut *image, (x - start) as usize, base);
-                place = next;
-            }
-            Opened::Marks(anchor, set, next) => {
-                patch_marks(k, &mut *image, base, start, anchor, set);
-                place = next;
-            }
+        if x % 2 == 0 {
+            add_at(k, &mut *image, (x - start) as usize, base);
+            place = std::num::wrapping_add_u64(x, c as u64);
+        } else {
+            patch_bitmap(k, &mut *image, base, start, place, x / 2);
+            place = std::num::wrapping_add_u64(place, stride);
         }
+    }
+}
+
+// The same by a flag for the class and for each class, so that the compiler makes a loop for each.
+fn patch_by(wide: bool, s: &[u8], base: u64, start: u64, image: &mut [u8])
+    requires { ⌜ Targeted (flagged wide) (now s) start (now image) ⌝ }
+    ensures { λ _. ⌜ Patched (flagged wide) (now (s .entry)) base start (now (image .entry)) (now (image .exit)) ⌝ }
+{
+    patch(place::chosen(wide), s, base, start, image);
+}
+
+fn patch_class(k: Class, s: &[u8], base: u64, start: u64, image: &mut [u8])
+    requires { ⌜ Targeted k (now s) start (now image) ⌝ }
+    ensures { λ _. ⌜ Patched k (now (s .entry)) base start (now (image .entry)) (now (image .exit)) ⌝ }
+{
+    match k {
+        Class::Four => patch_by(false, s, base, start, image),
+        Class::Eight => patch_by(true, s, base, start, image),
     }
 }
 
@@ -104,7 +141,7 @@ pub fn apply_class(k: Class, table: &[u8], base: u64, start: u64, image: &mut [u
     match found {
         Found::Refused(why, at) => answer::refuse(why, at),
         Found::Count(count) => {
-            patch(k, table, base, start, image);
+            patch_class(k, table, base, start, image);
             answer::accept(count)
         }
     }

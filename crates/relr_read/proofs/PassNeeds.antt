@@ -3,10 +3,12 @@
 use mathlib.Core.Bool.{true}
 use mathlib.Core.List.{List, [], _∷_, _++_}
 use mathlib.Core.Path.{_≡_, refl, sym, ap, subst, _∙_}
-use Prim.Native.Nat.{ℕ, _+_, _*_, _/_, _%_, _^_, _≤_, _<_}
+use Prim.Native.Nat.{ℕ, _+_, _-_, _*_, _/_, _%_, _^_, _≤_, _<_}
 use native.Mathlib.Omega.{arith}
 use lib.ListN.{length, drop, length-append}
 use lib.ListN.{set as stored}
+use lib.Bits.{bitAnd}
+use lib.Count.{trailingZeros}
 use lib.Seq.{sets, length-sets}
 use mir.Syntax.{w64}
 use mir.Val.{Fits}
@@ -19,115 +21,171 @@ use Rattle.answer.specs.declared.Found.{Found}
 use Rattle.answer.specs.declared.Found.the-variants.{Count}
 use Rattle.answer.specs.Outcome.{foundOf, filled, itself}
 use Rattle.word.specs.declared.Class.{Class}
-use Rattle.word.specs.Class.{bytesOf}
+use Rattle.word.specs.Class.{bytesOf, windowOf}
 use Rattle.word.specs.Word.{wordAt}
-use Rattle.word.specs.Class.Laws.{bytes-least}
+use Rattle.word.specs.Class.Laws.{bytes-least, bytes-most}
 use Rattle.relr_table.specs.Place.{Place, Nowhere}
 use Rattle.relr_table.specs.declared.place.Opened.{Opened}
 use Rattle.relr_table.specs.declared.place.Opened.the-variants.{Address, Marks, Refused}
-use Rattle.relr_table.specs.Inner.{marksOf, OpensAt, between, Standing}
+use Rattle.relr_table.specs.Inner.{marksOf, full, between}
 use Rattle.relr_read.specs.Inner.{Markable, Fillable, Filled}
 use Rattle.relr_table.proofs.PlaceNeeds.{one-mark}
-use Rattle.relr_table.proofs.Passed.{standing-begin, standing-load, standing-end, Word, word-refused, word-marks, word-one, word-done, word-good, among-long, Marking, marking-begin, marking-set, marking-clear, marking-end, step-fits, step-less, mark-dist, mark-fits, mark-more, step-fits, step-less, space-most}
+use Rattle.relr_table.proofs.Passed.{among-long, step-fits, step-less, space-most}
+use Rattle.relr_table.proofs.Following.{Following, Followed, following-begin, following-load, following-end, follow-address, follow-bitmap}
+use Rattle.relr_table.proofs.SetBits.{Next, Left, left-begin, left-end, left-next, left-more, left-fits, next-zeros, next-full, full-some, full-none, far-small, run-bit, run-less, zeros-fit, zeros-far, zeros-less}
 use Rattle.relr_table.specs.Table.{spaceOf, decode, contained}
 use Rattle.relr_table.proofs.Decoding.{decode-good, contained-space}
 use Rattle.relr_table.proofs.Leading.{contained-every}
 
 -- ---- a word's locations
-pub record Filling (k : Class) (old : List ℕ) (at anchor set : ℕ) (column : List ℕ) (bits d i : ℕ) : Type 0 where
+pub record Filling (k : Class) (old : List ℕ) (at anchor set : ℕ) (column : List ℕ) (bits i : ℕ) : Type 0 where
   pub p : List ℕ
-  pub j : ℕ
-  pub marking : Marking k anchor set j bits d p
+  pub left : Left k anchor set bits p
   pub list : column ≡ sets old at p
   pub next : i ≡ at + length p
 
 module _ {k : Class} {old : List ℕ} {at anchor set : ℕ} (m : Markable k old at anchor set) where
-  pub filling-begin : Filling k old at anchor set old set 0 at
-  filling-begin = record { p = []; j = 0; marking = marking-begin k anchor set (m .in-window); list = refl; next = omega arith }
+  pub filling-begin : Filling k old at anchor set old set at
+  filling-begin = record { p = []; left = left-begin k anchor set (m .in-window); list = refl; next = omega arith }
 
-  module _ {column : List ℕ} {bits d i : ℕ} (g : Filling k old at anchor set column bits d i) where
+  module _ {column : List ℕ} {bits i : ℕ} (g : Filling k old at anchor set column bits i) where
     pub filling-long : length column ≡ length old
     filling-long = ap length (g .list) ∙ length-sets old at (g .p)
 
     module _ (nz : bits ≡ 0 → ⊥) where
-      pub filling-dist : (c : ℕ) → c ≡ bytesOf k → Fits w64 (d + c)
-      filling-dist c ce = mark-dist (g .marking) nz c ce
+      zeros : Next k anchor bits (trailingZeros 64 bits) (bitAnd bits (bits - 1))
+      zeros = next-zeros k anchor bits nz (g .left .small)
 
-      pub filling-clear : (c : ℕ) → c ≡ bytesOf k → (bits % 2 ≡ 1 → ⊥) → Filling k old at anchor set column (bits / 2) (d + c) i
-      filling-clear c ce o = record { p = g .p; j = g .j + 1; marking = marking-clear (g .marking) nz ce (omega arith); list = g .list; next = g .next }
+      pub filling-in : i < length column
+      filling-in = omega (arith, filling-long, g .next, left-more (g .left) zeros, m .room)
 
-      module _ (o : bits % 2 ≡ 1) where
-        pub filling-fits : Fits w64 (anchor + d)
-        filling-fits = mark-fits (g .marking) nz (m .fits) o
+      pub filling-scaled : length old * 8 < 2 ^ 63 → Fits w64 (i * 8)
+      filling-scaled q = scaled-fits i (length old) 8 (omega (arith, filling-in, filling-long)) q
 
-        pub filling-in : i < length column
-        filling-in = omega (arith, filling-long, g .next, mark-more (g .marking) nz (m .fits) o, m .room)
+      pub filling-next : length old < 2 ^ 64 → Fits w64 (i + 1)
+      filling-next q = record { fits = omega (arith, filling-in, filling-long) }
 
-        pub filling-scaled : length old * 8 < 2 ^ 63 → Fits w64 (i * 8)
-        filling-scaled q = scaled-fits i (length old) 8 (omega (arith, filling-in, filling-long)) q
+    module _ {t rest c : ℕ} (n : Next k anchor bits t rest) (ce : c ≡ bytesOf k) where
+      next-fits : Fits w64 (anchor + t * c)
+      next-fits = rw ce (left-fits (g .left) n (m .fits))
 
-        pub filling-next : length old < 2 ^ 64 → Fits w64 (i + 1)
-        filling-next q = record { fits = omega (arith, filling-in, filling-long) }
+      next-set : Filling k old at anchor set (stored column i (anchor + t * c)) rest (i + 1)
+      next-set =
+          rw ce
+          (record {
+            p = g .p ++ (anchor + t * bytesOf k) ∷ [];
+            left = left-next (g .left) n;
+            list = rw (g .list, g .next) (sets-append old at (g .p) ((anchor + t * bytesOf k) ∷ []));
+            next = omega (arith, g .next, length-append (g .p) ((anchor + t * bytesOf k) ∷ []));
+          })
 
-        pub filling-set : (c : ℕ) → c ≡ bytesOf k → Filling k old at anchor set (stored column i (anchor + d)) (bits / 2) (d + c) (i + 1)
-        filling-set c ce =
-            record {
-              p = g .p ++ (anchor + d) ∷ [];
-              j = g .j + 1;
-              marking = marking-set (g .marking) nz ce o;
-              list = rw (g .list, g .next) (sets-append old at (g .p) ((anchor + d) ∷ []));
-              next = omega (arith, g .next, length-append (g .p) ((anchor + d) ∷ []));
-            }
+    -- by trailing zeros
+    module _ {c : ℕ} (nz : bits ≡ 0 → ⊥) (ce : c ≡ bytesOf k) where
+      pub zeros-fits : Fits w64 (anchor + trailingZeros 64 bits * c)
+      zeros-fits = next-fits (zeros nz) ce
+
+      pub zeros-set : Filling k old at anchor set (stored column i (anchor + trailingZeros 64 bits * c)) (bitAnd bits (bits - 1)) (i + 1)
+      zeros-set = next-set (zeros nz) ce
 
     pub filling-end : bits ≡ 0 → Written old column at i (marksOf k set anchor)
-    filling-end z = let e = marking-end (g .marking) z in record { list = rw e (g .list); place = rw e (g .next) }
+    filling-end z = let e = left-end (g .left) z in record { list = rw e (g .list); place = rw e (g .next) }
 
-pub ruleset markings = (filling-begin, filling-long, filling-dist, filling-clear, filling-fits, filling-in, filling-scaled, filling-next, filling-set, filling-end, needs)
+pub ruleset markings = (filling-begin, filling-long, filling-in, filling-scaled, filling-next, zeros-fits, zeros-set, filling-end, zeros-fit, zeros-far, zeros-less, needs)
+
+-- where all bits are set
+pub record Running (k : Class) (old : List ℕ) (at anchor n : ℕ) (column : List ℕ) (i j : ℕ) : Type 0 where
+  pub window : n ≡ windowOf k
+  pub within : j ≤ n
+  pub filling : Filling k old at anchor (full k) column (2 ^ windowOf k - 2 ^ j) i
+
+module _ {k : Class} {old : List ℕ} {at anchor n : ℕ} (m : Markable k old at anchor (full k)) where
+  pub running-begin : n ≡ windowOf k → Running k old at anchor n old at 0
+  running-begin ne = record { window = ne; within = omega arith; filling = filling-begin m }
+
+  module _ {column : List ℕ} {i j : ℕ} (g : Running k old at anchor n column i j) where
+    pub running-long : length column ≡ length old
+    running-long = filling-long m (g .filling)
+
+    pub running-end : n ≤ j → Written old column at i (marksOf k (full k) anchor)
+    running-end l = filling-end m (g .filling) (full-none k j (omega (arith, g .within, g .window)))
+
+    module _ (l : j < n) where
+      less : j < windowOf k
+      less = omega (arith, g .window)
+
+      pub running-in : i < length column
+      running-in = filling-in m (g .filling) (full-some k j less)
+
+      pub running-scaled : length old * 8 < 2 ^ 63 → Fits w64 (i * 8)
+      running-scaled = filling-scaled m (g .filling) (full-some k j less)
+
+      pub running-next : length old < 2 ^ 64 → Fits w64 (i + 1)
+      running-next = filling-next m (g .filling) (full-some k j less)
+
+      module _ {c : ℕ} (ce : c ≡ bytesOf k) where
+        pub running-far : Fits w64 (j * c)
+        running-far = far-small k j less ce
+
+        pub running-fits : Fits w64 (anchor + j * c)
+        running-fits = next-fits m (g .filling) (next-full k anchor j less) ce
+
+        pub running-set : Running k old at anchor n (stored column i (anchor + j * c)) (i + 1) (j + 1)
+        running-set = record { window = g .window; within = omega arith; filling = next-set m (g .filling) (next-full k anchor j less) ce }
+
+pub ruleset runnings = (running-begin, running-long, running-end, running-in, running-scaled, running-next, running-far, running-fits, running-set, run-bit, run-less, needs)
+
+-- which it is
+module _ (k : Class) {set r : ℕ} (e : set ≡ r) (g : r ≡ full k) where
+  pub bitmap-run : {column : List ℕ} {at anchor : ℕ} → Markable k column at anchor set → Markable k column at anchor (full k)
+  bitmap-run {column} {at} {anchor} = subst (λ (b : ℕ). Markable k column at anchor b) (e ∙ g)
+
+  pub bitmap-ran : {old new : List ℕ} {at i : ℕ} (anchor : ℕ) → Written old new at i (marksOf k (full k) anchor) → Written old new at i (marksOf k set anchor)
+  bitmap-ran {old} {new} {at} {i} anchor = subst (λ (b : ℕ). Written old new at i (marksOf k b anchor)) (sym (e ∙ g))
+
+pub ruleset bitmaps = (bitmap-run, bitmap-ran, needs)
 
 -- ---- a table's words
-pub record Reading (k : Class) (s old : List ℕ) (at : ℕ) (p : Place) (column : List ℕ) (i : ℕ) : Type 0 where
+pub record Reading (k : Class) (s old : List ℕ) (at p : ℕ) (column : List ℕ) (i : ℕ) : Type 0 where
   pub list : List ℕ
-  pub standing : Standing k s list at p
+  pub following : Following k s list at p
   pub next : i ≡ length list
   pub held : column ≡ list ++ drop i old
 
 module _ {k : Class} {s old : List ℕ} (f : Fillable k s old) where
-  pub reading-begin : Reading k s old 0 Nowhere old 0
-  reading-begin = record { list = []; standing = standing-begin k s (f .good .whole); next = refl; held = refl }
+  pub reading-begin : Reading k s old 0 0 old 0
+  reading-begin = record { list = []; following = following-begin k s (f .good .whole); next = refl; held = refl }
 
-  module _ {at : ℕ} {p : Place} {column : List ℕ} {i : ℕ} (g : Reading k s old at p column i) where
+  module _ {at p : ℕ} {column : List ℕ} {i : ℕ} (g : Reading k s old at p column i) where
     pub reading-long : length column ≡ length old
     reading-long = buffer-long (g .list) old i (g .held) (sym (g .next)) (omega (arith, within, f .room, g .next))
       where
         within : length (g .list) ≤ length (f .good .list)
-        within = after-long (g .list) _ (sym (g .standing .so) ∙ f .good .is)
+        within = after-long (g .list) _ (sym (g .following .ahead .so) ∙ f .good .is)
 
     pub reading-end : length s ≤ at → Filled k s old column
-    reading-end h l e = let q : l ≡ g .list = cc (standing-end (g .standing) h) in g .held ∙ rw (q, g .next)
+    reading-end h l e = let q : l ≡ g .list = cc (following-end (g .following) h) in g .held ∙ rw (q, g .next)
 
-    module _ {anchor set : ℕ} {next : Place} (word : Word k s (g .list) at anchor set next) where
+    module _ {anchor set next : ℕ} (word : Followed k s (g .list) (f .good .list) at anchor set next) where
       room : length (g .list) + length (marksOf k set anchor) ≤ length old
-      room = omega (arith, among-long (word-good word (f .good .is)), f .room)
+      room = omega (arith, among-long (word .among), f .room)
 
-      more : {new : List ℕ} {c n : ℕ} → c ≡ bytesOf k → Written column new i n (marksOf k set anchor) → Reading k s old (at + c) next new n
-      more {new} {c} {n} ce u =
-          record {
+      more : {new : List ℕ} {c n p : ℕ} → c ≡ bytesOf k → p ≡ next → Written column new i n (marksOf k set anchor) → Reading k s old (at + c) p new n
+      more {new} {c} {n} ce pe u =
+          rw (ce, pe)
+          (record {
             list = g .list ++ marksOf k set anchor;
-            standing = subst (λ (b : ℕ). Standing k s (g .list ++ marksOf k set anchor) (at + b) next) (sym ce) (word-done word (word-good word (f .good .is) .fits));
+            following = word .on;
             next = omega (arith, u .place, g .next, length-append (g .list) (marksOf k set anchor));
             held = u .list ∙ buffer-more (g .list) old i (marksOf k set anchor) (g .held) (sym (g .next)) (omega (arith, room, g .next)) ∙ rw (u .place);
-          }
+          })
 
-    module _ {x : ℕ} {r : Opened} (l : at < length s) (e : x ≡ wordAt (bytesOf k) s at) (o : OpensAt k p x r) where
-      pub reading-not : {why : Refusal} {new : List ℕ} → r ≡ Refused why → Filled k s old new
-      reading-not q = absurd (accepted-refused (f .good .is) (word-refused (g .standing) l e o q))
-
-      module _ {y : ℕ} {next : Place} (q : r ≡ Address y next) where
-        alone : Word k s (g .list) at y 1 next
-        alone = word-one (g .standing) l e o q
+    module _ {x : ℕ} (l : at < length s) (e : x ≡ wordAt (bytesOf k) s at) where
+      module _ (even : x % 2 ≡ 0) where
+        alone : Followed k s (g .list) (f .good .list) at x 1 ((x + bytesOf k) % 2 ^ 64)
+        alone = follow-address (g .following) (f .good .is) l e even
 
         pub reading-in : i < length column
-        reading-in = omega (arith, room alone, ap length (one-mark k y), reading-long, g .next)
+        reading-in = omega (arith, room alone, ap length (one-mark k x), reading-long, g .next)
 
         pub reading-scaled : length old * 8 < 2 ^ 63 → Fits w64 (i * 8)
         reading-scaled b = scaled-fits i (length old) 8 (omega (arith, reading-in, reading-long)) b
@@ -135,24 +193,45 @@ module _ {k : Class} {s old : List ℕ} (f : Fillable k s old) where
         pub reading-next : length old < 2 ^ 64 → Fits w64 (i + 1)
         reading-next b = record { fits = omega (arith, reading-in, reading-long) }
 
-        pub reading-one : {c : ℕ} → c ≡ bytesOf k → Reading k s old (at + c) next (stored column i y) (i + 1)
-        reading-one ce = let m = one-mark k y in let e : i + 1 ≡ i + length (marksOf k 1 y) = omega (arith, ap length m) in more alone ce (record { list = rw m; place = e })
+        pub reading-one : {c q : ℕ} → c ≡ bytesOf k → q ≡ (x + c) % 2 ^ 64 → Reading k s old (at + c) q (stored column i x) (i + 1)
+        reading-one {c} ce qe =
+            let m = one-mark k x in
+            let e : i + 1 ≡ i + length (marksOf k 1 x) = omega (arith, ap length m) in
+            more alone ce (qe ∙ rw ce) (record { list = rw m; place = e })
 
-      module _ {anchor set : ℕ} {next : Place} (q : r ≡ Marks anchor set next) where
-        word : Word k s (g .list) at anchor set next
-        word = word-marks (g .standing) l e o q
+      module _ (small : x < spaceOf k) (odd : x % 2 ≡ 0 → ⊥) where
+        word : Followed k s (g .list) (f .good .list) at p (x / 2) ((p + windowOf k * bytesOf k) % 2 ^ 64)
+        word = follow-bitmap (g .following) (f .good .is) l e small odd
 
-        pub reading-marks : Markable k column i anchor set
-        reading-marks = record { in-window = word .in-window; fits = word-good word (f .good .is) .fits; room = omega (arith, room word, reading-long, g .next) }
+        pub reading-marks : Markable k column i p (x / 2)
+        reading-marks = record { in-window = word .in-window; fits = word .among .fits; room = omega (arith, room word, reading-long, g .next) }
 
-        pub reading-more : {new : List ℕ} {c n : ℕ} → c ≡ bytesOf k → Written column new i n (marksOf k set anchor) → Reading k s old (at + c) next new n
-        reading-more ce u = more word ce u
+        pub reading-more : {new : List ℕ} {c d n q : ℕ} → c ≡ bytesOf k → d ≡ windowOf k * bytesOf k → q ≡ (p + d) % 2 ^ 64 → Written column new i n (marksOf k (x / 2) p)
+            → Reading k s old (at + c) q new n
+        reading-more ce de qe u = more word ce (qe ∙ rw de) u
 
-module _ {k : Class} {s old : List ℕ} {at : ℕ} {p : Place} {column : List ℕ} {i : ℕ} (g : Reading k s old at p column i) where
+module _ {k : Class} {s old : List ℕ} {at p : ℕ} {column : List ℕ} {i : ℕ} (g : Reading k s old at p column i) where
   pub reading-load : at < length s → at + bytesOf k ≤ length s
-  reading-load l = standing-load (g .standing) l
+  reading-load l = following-load (g .following) l
 
-pub ruleset readings = (reading-begin, reading-long, reading-end, reading-not, reading-in, reading-scaled, reading-next, reading-one, reading-marks, reading-more, reading-load, step-fits, step-less, needs)
+pub ruleset readings = (reading-begin, reading-long, reading-end, reading-in, reading-scaled, reading-next, reading-one, reading-marks, reading-more, reading-load, step-fits, step-less, needs)
+
+-- ---- one class by two names
+module _ {k j : Class} (e : k ≡ j) (s old : List ℕ) where
+  pub fillable-to : Fillable k s old → Fillable j s old
+  fillable-to h = subst (λ (i : Class). Fillable i s old) e h
+
+  pub fillable-from : Fillable j s old → Fillable k s old
+  fillable-from h = subst (λ (i : Class). Fillable i s old) (sym e) h
+
+  module _ {new : List ℕ} where
+    pub filled-to : Filled k s old new → Filled j s old new
+    filled-to h = subst (λ (i : Class). Filled i s old new) e h
+
+    pub filled-from : Filled j s old new → Filled k s old new
+    filled-from h = subst (λ (i : Class). Filled i s old new) (sym e) h
+
+pub ruleset classes = (fillable-to, fillable-from, filled-to, filled-from, needs)
 
 -- ---- the count
 pub past-last : (k : Class) (last : ℕ) → last + bytesOf k ≡ spaceOf k → Fits w64 (last + 1)

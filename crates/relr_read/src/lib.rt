@@ -4,12 +4,11 @@ ghost use mathlib.Core.Path.{_≡_};
 ghost use Rattle.answer.specs.Outcome.{Gives, foundOf};
 ghost use Rattle.answer.specs.Written.{Written};
 ghost use Rattle.relr_table.specs.Table.{decode};
-ghost use Rattle.relr_table.specs.Inner.{marksOf};
+ghost use Rattle.relr_table.specs.Inner.{flagged, marksOf, full};
 ghost use Rattle.relr_read.specs.Inner.{Markable, Fillable, Filled};
 use answer::Answer;
 use answer::Found;
 use relr_table::place;
-use relr_table::place::Opened;
 use word::Class;
 
 // Puts the locations that the bits mark from an offset on into a column, and returns the index after them.
@@ -18,45 +17,82 @@ fn fill_marks(k: Class, column: &mut [u64], at: usize, anchor: u64, set: u64) ->
     ensures { λ r. ⌜ Written (now (column .entry)) (now (column .exit)) at r (marksOf k set anchor) ⌝ }
 {
     let mut bits = set;
-    let mut d: u64 = 0;
     let mut i = at;
     while bits != 0 {
-        if bits % 2 == 1 {
-            column[i] = anchor + d;
-            i += 1;
-        }
-        bits = bits / 2;
-        d += k.bytes() as u64;
+        let zeros = u64::trailing_zeros(bits) as u64;
+        column[i] = anchor + zeros * (k.bytes() as u64);
+        i += 1;
+        bits = bits & (bits - 1);
     }
     i
 }
 
-// The second pass, over a table that the first accepted.
+// The same where all bits are set. (The compiler makes the loop wide.)
+fn fill_run(k: Class, column: &mut [u64], at: usize, anchor: u64) -> usize
+    requires { ⌜ Markable k (now column) at anchor (full k) ⌝ }
+    ensures { λ r. ⌜ Written (now (column .entry)) (now (column .exit)) at r (marksOf k (full k) anchor) ⌝ }
+{
+    let n = k.window() as u64;
+    let mut i = at;
+    let mut j: u64 = 0;
+    while j < n {
+        column[i] = anchor + j * (k.bytes() as u64);
+        i += 1;
+        j += 1;
+    }
+    i
+}
+
+// Either.
+fn fill_bitmap(k: Class, column: &mut [u64], at: usize, anchor: u64, set: u64) -> usize
+    requires { ⌜ Markable k (now column) at anchor set ⌝ }
+    ensures { λ r. ⌜ Written (now (column .entry)) (now (column .exit)) at r (marksOf k set anchor) ⌝ }
+{
+    if set == place::filled(k) {
+        return fill_run(k, column, at, anchor);
+    }
+    fill_marks(k, column, at, anchor, set)
+}
+
+// The second pass, over a table that the first accepted: where the next bitmap's first location is wraps, as no offset is there.
 fn fill(k: Class, s: &[u8], column: &mut [u64])
     requires { ⌜ Fillable k (now s) (now column) ⌝ }
     ensures { λ _. ⌜ Filled k (now (s .entry)) (now (column .entry)) (now (column .exit)) ⌝ }
 {
     let c = k.bytes() as usize;
+    let stride = k.stride();
     let mut at: usize = 0;
-    let mut place = place::NOWHERE;
+    let mut place: u64 = 0;
     let mut i: usize = 0;
     while at < s.len() {
-        let opened = place::open(k, place, word::load(k, s, at));
+        let x = word::load(k, s, at);
         at += c;
-        match opened {
-            Opened::Refused(_) => {
-                return;
-            }
-            Opened::Address(x, next) => {
-                column[i] = x;
-                i += 1;
-                place = next;
-            }
-            Opened::Marks(anchor, set, next) => {
-                i = fill_marks(k, &mut *column, i, anchor, set);
-                place = next;
-            }
+        if x % 2 == 0 {
+            column[i] = x;
+            i += 1;
+            place = std::num::wrapping_add_u64(x, c as u64);
+        } else {
+            i = fill_bitmap(k, &mut *column, i, place, x / 2);
+            place = std::num::wrapping_add_u64(place, stride);
         }
+    }
+}
+
+// The same by a flag for the class and for each class, so that the compiler makes a loop for each.
+fn fill_by(wide: bool, s: &[u8], column: &mut [u64])
+    requires { ⌜ Fillable (flagged wide) (now s) (now column) ⌝ }
+    ensures { λ _. ⌜ Filled (flagged wide) (now (s .entry)) (now (column .entry)) (now (column .exit)) ⌝ }
+{
+    fill(place::chosen(wide), s, column);
+}
+
+fn fill_class(k: Class, s: &[u8], column: &mut [u64])
+    requires { ⌜ Fillable k (now s) (now column) ⌝ }
+    ensures { λ _. ⌜ Filled k (now (s .entry)) (now (column .entry)) (now (column .exit)) ⌝ }
+{
+    match k {
+        Class::Four => fill_by(false, s, column),
+        Class::Eight => fill_by(true, s, column),
     }
 }
 
@@ -78,7 +114,7 @@ pub fn read_class(k: Class, table: &[u8], offsets: &mut [u64]) -> Answer
             if (offsets.len() as u64) < n {
                 return answer::short_of(n);
             }
-            fill(k, table, offsets);
+            fill_class(k, table, offsets);
             answer::accept(n)
         }
     }

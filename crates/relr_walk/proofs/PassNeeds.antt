@@ -5,6 +5,8 @@ use mathlib.Core.List.{List, [], _∷_, _++_, append-assoc, append-nil}
 use mathlib.Core.Path.{_≡_, refl, sym, ap, subst, _∙_}
 use Prim.Native.Nat.{ℕ, _+_, _-_, _*_, _/_, _%_, _^_, _≤_, _<_}
 use native.Mathlib.Omega.{arith}
+use lib.Bits.{bitAnd}
+use lib.Count.{trailingZeros}
 use lib.ListN.{length, length-append}
 use mir.Syntax.{w64}
 use mir.Val.{Fits}
@@ -19,7 +21,7 @@ use Rattle.answer.specs.Limits.{input-most}
 use Rattle.answer.specs.Outcome.{Outcome, foundOf, inputLimit}
 use Rattle.answer.specs.Outcome.Laws.{after-refused, found-refused}
 use Rattle.word.specs.declared.Class.{Class}
-use Rattle.word.specs.Class.{bytesOf}
+use Rattle.word.specs.Class.{bytesOf, windowOf}
 use Rattle.word.specs.Class.Laws.{bytes-least, bytes-most}
 use Rattle.word.specs.Word.{wordAt}
 use Rattle.relr_table.specs.Words.{fit}
@@ -35,7 +37,9 @@ use Rattle.relr_walk.proofs.SkimNeeds.{long, scan-load}
 use Rattle.relr_walk.proofs.Leads.{leads-begin, leads-more, leads-end}
 use Rattle.relr_table.proofs.Leading.{contained-refused}
 use Rattle.relr_table.proofs.PlaceNeeds.{one-mark}
-use Rattle.relr_table.proofs.Passed.{fit-append, fit-one, fit-not, standing-begin, standing-end, Word, word-refused, word-marks, word-one, word-done, Marking, marking-begin, marking-less, marking-set, marking-clear, marking-dist, marking-end, marking-head, step-fits, step-less}
+use Rattle.relr_table.proofs.Passed.{fit-append, fit-one, fit-not, standing-begin, standing-end, Word, word-refused, word-marks, word-one, word-done, step-fits, step-less}
+use Rattle.relr_table.proofs.Marked.{marked-most}
+use Rattle.relr_table.proofs.SetBits.{Next, Left, left-begin, left-end, left-head, left-next, left-more, next-zeros, zeros-fit, zeros-far, zeros-less}
 
 -- ---- counting
 module _ (first count : ℕ) {b : Bool} where
@@ -65,17 +69,16 @@ pub skim-allowed : {k : Class} {s : List ℕ} {low high at count first : ℕ} {p
     → Skimmable k s low high (record { at = at; place = p; count = count })
 skim-allowed w h = record { whole = w; first = _; scanned = h }
 
--- ---- first a word
-pub record Walking (k : Class) (s : List ℕ) (low high at count first anchor set : ℕ) (next : Place) (bits d : ℕ) : Type 0 where
+-- ---- inside a word
+pub record Walking (k : Class) (s : List ℕ) (low high at count first anchor set : ℕ) (next : Place) (bits : ℕ) : Type 0 where
   pub list : List ℕ
   pub passed : List ℕ
   pub word : Word k s list at anchor set next
-  pub j : ℕ
-  pub marking : Marking k anchor set j bits d passed
+  pub left : Left k anchor set bits passed
   pub fits : fit (bytesOf k) (spaceOf k) passed ≡ true
   pub counted : count ≡ length (list ++ passed)
   pub lead : Leads (between low high) first (list ++ passed)
-  pub few : count ≤ 64 * at + j
+  pub few : length list ≤ 64 * at
 
 -- from where a walk skimmed to
 module _ {k : Class} {s : List ℕ} {low high first : ℕ} {from q : Passed} (h₀ : ScannedTo k s low high from first) (z : Skims k s low high from q) where
@@ -121,94 +124,79 @@ module _ {k : Class} {s : List ℕ} {low high first : ℕ} {from q : Passed} (h�
       scan-reach last g = omega (arith, word-marks (h .standing) l e o f .in-space)
 
 pub walk-begin : {k : Class} {s : List ℕ} {low high at count first x : ℕ} {p : Place} {r : Opened} {anchor set : ℕ} {next : Place} → Scanned k s low high at p count first
-    → at < length s → x ≡ wordAt (bytesOf k) s at → OpensAt k p x r → r ≡ Marks anchor set next → Walking k s low high at count first anchor set next set 0
+    → at < length s → x ≡ wordAt (bytesOf k) s at → OpensAt k p x r → r ≡ Marks anchor set next → Walking k s low high at count first anchor set next set
 unfolding fit
 walk-begin {k} {anchor = anchor} {set = set} h l e o f =
     let w = word-marks (h .standing) l e o f in
     record {
       list = h .list;
       passed = [];
-      j = 0;
       word = w;
-      marking = marking-begin k anchor set (w .in-window);
+      left = left-begin k anchor set (w .in-window);
       fits = refl;
       counted = rw append-nil (h .counted);
       lead = rw append-nil (h .lead);
-      few = omega (arith, h .few);
+      few = omega (arith, h .few, h .counted);
     }
 
-module _ {k : Class} {s : List ℕ} {low high at count first anchor set : ℕ} {next : Place} {bits d : ℕ} (h : Walking k s low high at count first anchor set next bits d) where
-  -- the last offset of the space
-  module _ (last : ℕ) (g : last + bytesOf k ≡ spaceOf k) where
-    pub walk-offset : d ≤ last - anchor → anchor ≤ last → last < 2 ^ 64 → Fits w64 (anchor + d)
-    walk-offset l m q = record { fits = omega arith }
-
-    module _ (nz : bits ≡ 0 → ⊥) (odd : bits % 2 ≡ 1) where
-      head : (q : List ℕ) × (marksOf k set anchor ≡ h .passed ++ (anchor + d) ∷ q)
-      head = marking-head (h .marking) nz odd
-
-      pub walk-far : last - anchor < d → found.Refused Space at ≡ foundOf (contained (between low high) (wordsRead k s))
-      walk-far l =
-          let (q, e) = head in
-          let a : spaceOf k < anchor + d + bytesOf k = omega arith in
-          let f : fit (bytesOf k) (spaceOf k) (marksOf k set anchor) ≡ false =
-          rw (e, fit-append (bytesOf k) (spaceOf k) (h .passed) ((anchor + d) ∷ q) (h .fits)) (fit-not (bytesOf k) (spaceOf k) (anchor + d) q a) in
-          sym (found-refused (contained-refused (between low high) (h .word .so ∙ rw f (after-refused (h .list) Space at))))
-
-      pub walk-set : {c x : ℕ} {b : Bool} → Whole k s → at < length s → c ≡ bytesOf k → d ≤ last - anchor → b ≡ between low high (anchor + d) → x ≡ grow first count b → anchor ≤ last
-          → Walking k s low high at (count + 1) x anchor set next (bits / 2) (d + c)
-      walk-set {c} {x} w lt ce l be e m =
-          let a : anchor + d + bytesOf k ≤ spaceOf k = omega arith in
-          let b : (h .list ++ h .passed) ++ (anchor + d) ∷ [] ≡ h .list ++ (h .passed ++ (anchor + d) ∷ []) = append-assoc (h .list) (h .passed) ((anchor + d) ∷ []) in
-          record {
-            list = h .list;
-            passed = h .passed ++ (anchor + d) ∷ [];
-            j = h .j + 1;
-            word = h .word;
-            marking = marking-set (h .marking) nz ce odd;
-            fits = fit-append (bytesOf k) (spaceOf k) (h .passed) ((anchor + d) ∷ []) (h .fits) ∙ fit-one (bytesOf k) (spaceOf k) (anchor + d) a;
-            counted = rw (← b) (omega (arith, h .counted, length-append (h .list ++ h .passed) ((anchor + d) ∷ [])));
-            lead = rw (← b, e, be) (leads-more (h .counted) (anchor + d) (omega (arith, h .few, marking-less (h .marking) nz, bytes-most k, w .few, input-most)) (h .lead));
-            few = omega (arith, h .few);
-          }
-
+module _ {k : Class} {s : List ℕ} {low high at count first anchor set : ℕ} {next : Place} {bits : ℕ} (h : Walking k s low high at count first anchor set next bits) where
   module _ (nz : bits ≡ 0 → ⊥) where
-    pub walk-clear : {c : ℕ} → c ≡ bytesOf k → (bits % 2 ≡ 1 → ⊥) → Walking k s low high at count first anchor set next (bits / 2) (d + c)
-    walk-clear ce o =
-        record {
-          list = h .list;
-          passed = h .passed;
-          j = h .j + 1;
-          word = h .word;
-          marking = marking-clear (h .marking) nz ce (omega arith);
-          fits = h .fits;
-          counted = h .counted;
-          lead = h .lead;
-          few = omega (arith, h .few);
-        }
+    -- the location of the lowest bit left
+    abbrev x : ℕ
+    x = anchor + trailingZeros 64 bits * bytesOf k
 
-    pub walk-dist : {c : ℕ} → c ≡ bytesOf k → Fits w64 (d + c)
-    walk-dist ce = record { fits = omega (arith, marking-dist (h .marking) nz, bytes-most k) }
+    zeros : Next k anchor bits (trailingZeros 64 bits) (bitAnd bits (bits - 1))
+    zeros = next-zeros k anchor bits nz (h .left .small)
 
     pub walk-small : Whole k s → at < length s → count < 2 ^ 63
-    walk-small w l = omega (arith, h .few, marking-less (h .marking) nz, bytes-most k, w .few, input-most)
+    walk-small w l =
+        omega (arith, h .counted, length-append (h .list) (h .passed), left-more (h .left) zeros, marked-most (bytesOf k) (windowOf k) set anchor, h .few, bytes-most k, w .few, input-most)
 
     pub walk-count : Whole k s → at < length s → Fits w64 (count + 1)
-    walk-count w l = record { fits = omega (arith, h .few, marking-less (h .marking) nz, bytes-most k, w .few, input-most) }
+    walk-count w l = record { fits = omega (arith, walk-small w l) }
+
+    module _ {c : ℕ} (last : ℕ) (g : last + bytesOf k ≡ spaceOf k) (ce : c ≡ bytesOf k) where
+      pub walk-far : last - anchor < trailingZeros 64 bits * c → found.Refused Space at ≡ foundOf (contained (between low high) (wordsRead k s))
+      walk-far l =
+          let a : spaceOf k < x + bytesOf k = omega (arith, ap (λ (y : ℕ). trailingZeros 64 bits * y) ce) in
+          let q = marksOf k (bitAnd bits (bits - 1)) anchor in
+          let f : fit (bytesOf k) (spaceOf k) (marksOf k set anchor) ≡ false =
+          rw (left-head (h .left) zeros, fit-append (bytesOf k) (spaceOf k) (h .passed) (x ∷ q) (h .fits)) (fit-not (bytesOf k) (spaceOf k) x q a) in
+          sym (found-refused (contained-refused (between low high) (h .word .so ∙ rw f (after-refused (h .list) Space at))))
+
+      pub walk-set : {first′ : ℕ} {b : Bool} → Whole k s → at < length s → trailingZeros 64 bits * c ≤ last - anchor → b ≡ between low high (anchor + trailingZeros 64 bits * c)
+          → first′ ≡ grow first count b → anchor ≤ last → Walking k s low high at (count + 1) first′ anchor set next (bitAnd bits (bits - 1))
+      walk-set w lt l be e m =
+          let a : x + bytesOf k ≤ spaceOf k = omega (arith, ap (λ (y : ℕ). trailingZeros 64 bits * y) ce) in
+          let b : (h .list ++ h .passed) ++ x ∷ [] ≡ h .list ++ (h .passed ++ x ∷ []) = append-assoc (h .list) (h .passed) (x ∷ []) in
+          record {
+            list = h .list;
+            passed = h .passed ++ x ∷ [];
+            word = h .word;
+            left = left-next (h .left) zeros;
+            fits = fit-append (bytesOf k) (spaceOf k) (h .passed) (x ∷ []) (h .fits) ∙ fit-one (bytesOf k) (spaceOf k) x a;
+            counted = rw (← b) (omega (arith, h .counted, length-append (h .list ++ h .passed) (x ∷ [])));
+            lead = rw (← b, e, be, ce) (leads-more (h .counted) x (omega (arith, walk-small w lt)) (h .lead));
+            few = h .few;
+          }
+
+  pub walk-offset : {d last : ℕ} → d ≤ last - anchor → anchor ≤ last → last < 2 ^ 64 → Fits w64 (anchor + d)
+  walk-offset l m q = record { fits = omega arith }
 
   pub walk-done : {c : ℕ} → c ≡ bytesOf k → bits ≡ 0 → Scanned k s low high (at + c) next count first
   walk-done ce z =
-      let e = marking-end (h .marking) z in
+      let e = left-end (h .left) z in
       let st = word-done (h .word) (rw e (h .fits)) in
+      let most = marked-most (bytesOf k) (windowOf k) set anchor in
       record {
         list = h .list ++ h .passed;
         standing = subst (λ (i : ℕ). Standing k s (h .list ++ h .passed) (at + i) next) (sym ce) (subst (λ (l : List ℕ). Standing k s (h .list ++ l) (at + bytesOf k) next) e st);
         counted = h .counted;
         lead = h .lead;
-        few = omega (arith, h .few, h .marking .within, bytes-least k, bytes-most k);
+        few = omega (arith, h .counted, length-append (h .list) (h .passed), ap length e, most, h .few, bytes-least k, bytes-most k);
       }
 
-pub ruleset scans = (scan-begin, skim-allowed, scan-fetch, scan-less, scan-end, scan-refused, scan-count, scan-one, scan-reach, walk-begin, walk-offset, walk-far, walk-set, walk-clear, walk-dist, walk-small, walk-count, walk-done, step-fits, step-less, needs)
+pub ruleset scans = (scan-begin, skim-allowed, scan-fetch, scan-less, scan-end, scan-refused, scan-count, scan-one, scan-reach, walk-begin, walk-offset, walk-far, walk-set, walk-small, walk-count, walk-done, zeros-fit, zeros-far, zeros-less, step-fits, step-less, needs)
 
 -- ---- the first pass over any bytes
 module _ (k : Class) (s : List ℕ) (low high : ℕ) where

@@ -30,6 +30,7 @@ use Rattle.relr_walk.specs.Inner.{Scanned, Skimmable, Skims, Fence, Clea
 use Rattle.relr_walk.proofs.Leads.{leads-all}
 use Rattle.relr_table.proofs.Marked.{On, all-map, marked-on, marked-most}
 use Rattle.relr_table.proofs.PlaceNeeds.{one-mark, address-marks, bitmap-at, half-fits}
+use Rattle.relr_table.proofs.SetBits.{ones-are, ones-fit}
 use Rattle.relr_table.proofs.Passed.{all-fit, standing-load, word-marked, word-done, step-fits, step-less, space-most}
 
 -- ---- the two ends
@@ -75,65 +76,7 @@ module _ (k : Class) (high width last : ℕ) (e : width ≡ windowOf k * bytesOf
 pub ruleset fences = (fence-none, fence-last, fence-high, fence-room, needs)
 
 -- ---- a bitmap's locations, counted
-unfoldable pub ones : ℕ → ℕ → ℕ
-ones zero b = 0
-ones (suc m) b = b % 2 + ones m (b / 2)
-
-ones-more : (m b : ℕ) → ones (suc m) b ≡ b % 2 + ones m (b / 2)
-unfolding ones
-ones-more m b = refl
-
-ones-none : (m : ℕ) → ones m 0 ≡ 0
-unfolding ones
-ones-none zero = refl
-ones-none (suc m) = omega (arith, ones-none m)
-
-ones-most : (m b : ℕ) → ones m b ≤ m
-unfolding ones
-ones-most zero b = omega arith
-ones-most (suc m) b = omega (arith, ones-most m (b / 2))
-
--- bits above the highest that is set count for nothing
-ones-wide : (m j b : ℕ) → b < 2 ^ m → b < 2 ^ j → ones m b ≡ ones j b
-unfolding ones
-ones-wide zero j b h g = let e : b ≡ 0 = omega arith in rw e (sym (ones-none j))
-ones-wide (suc m) zero b h g = let e : b ≡ 0 = omega arith in rw e (omega (arith, ones-more m 0, ones-none m))
-ones-wide (suc m) (suc j) b h g = rw (ones-wide m j (b / 2) (omega arith) (omega arith))
-
-marked-ones : (c m b at : ℕ) → length (marked c m b at) ≡ ones m b
-unfolding marked ones
-marked-ones c zero b at = refl
-marked-ones c (suc m) b at = go (ℕ-discrete (b % 2) 1) (marked-ones c m (b / 2) (at + c))
-  where
-    go : Dec (b % 2 ≡ 1) → length (marked c m (b / 2) (at + c)) ≡ ones m (b / 2)
-        → length (cond (eqb (b % 2) 1) (at ∷ marked c m (b / 2) (at + c)) (marked c m (b / 2) (at + c))) ≡ b % 2 + ones m (b / 2)
-    go (yes e) ih = rw (eq-eqb (b % 2) 1 e) (omega (arith, ih))
-    go (no e) ih = rw (ne-eqb (b % 2) 1 e) (omega (arith, ih))
-
--- so many of the set bits are counted, and the others are left
-pub record Tally (set count bits : ℕ) : Type 0 where
-  pub m : ℕ
-  pub in-width : bits < 2 ^ m
-  pub all : count + ones m bits ≡ ones 64 set
-
-pub tally-begin : (set : ℕ) → set < 2 ^ 64 → Tally set 0 set
-tally-begin set h = record { m = 64; in-width = h; all = omega arith }
-
-module _ {set count bits : ℕ} (t : Tally set count bits) where
-  pub tally-more : (bits ≡ 0 → ⊥) → Tally set (count + bits % 2) (bits / 2)
-  tally-more nz = go (t .m) (t .in-width) (t .all)
-    where
-      go : (m : ℕ) → bits < 2 ^ m → count + ones m bits ≡ ones 64 set → Tally set (count + bits % 2) (bits / 2)
-      go zero h e = absurd (nz (omega arith))
-      go (suc m) h e = record { m = m; in-width = omega arith; all = omega (arith, ones-more m bits) }
-
-  pub tally-fits : (bits ≡ 0 → ⊥) → Fits w64 (count + bits % 2)
-  tally-fits nz = record { fits = omega (arith, tally-more nz .all, ones-most 64 set) }
-
-  pub tally-end : set < 2 ^ 64 → bits ≡ 0 → (c n anchor : ℕ) → set < 2 ^ n → count ≡ length (marked c n set anchor)
-  tally-end h z c n anchor g = omega (arith, t .all, ap (ones (t .m)) z, ones-none (t .m), ones-wide 64 n set h g, marked-ones c n set anchor)
-
-pub ruleset tallies = (tally-begin, tally-fits, tally-more, tally-end, needs)
+pub ruleset tallies = (ones-are, ones-fit, needs)
 
 -- ---- a word that lies between the two ends
 -- each location of a bitmap is its anchor or more, and ends by the window's end

@@ -38,13 +38,7 @@ fn fence(k: Class, high: u64) -> u64
 fn marks(set: u64) -> u64
     ensures { λ r. ⌜ ((c n anchor : ℕ) → set < 2 ^ n → r ≡ length (marked c n set anchor)) ⌝ }
 {
-    let mut bits = set;
-    let mut count: u64 = 0;
-    while bits != 0 {
-        count += bits % 2;
-        bits = bits / 2;
-    }
-    count
+    u64::count_ones(set) as u64
 }
 
 // A word that is passed, with the next one's *where*: an address, or a bitmap with how many offsets it stands for; or one that is not.

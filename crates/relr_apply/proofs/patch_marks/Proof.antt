@@ -1,4 +1,3 @@
-use mathlib.Core.Logic.{⊎-elim}
 use Rattle.relr_apply.proofs.PassNeeds.{Patching, patchings}
 use Rattle.relr_apply.proofs.patch_marks.Statement.{statement}
 use Rattle.relr_apply.proofs.patch_marks.Tie as tie
@@ -8,16 +7,28 @@ use Rattle.relr_apply.proofs.add_at.Reads as add-at-reads
 use Rattle.word.proofs.Class.bytes.Reads as bytes-reads
 
 abbrev Inv-loop : tie.InvT-loop
-Inv-loop k image₀ base start anchor set bits₀ d₀ image bits d = Patching k image₀ base start anchor set image bits d
+Inv-loop k image₀ base start anchor set bits₀ image bits = Patching k image₀ base start anchor set image bits
 
 abbrev μ-loop : tie.MeasureT-loop
-μ-loop k image₀ base start anchor set bits₀ d₀ image bits d = bits
+μ-loop k image₀ base start anchor set bits₀ image bits = bits
 
 loop-holds : tie.Need-loop-holds Inv-loop μ-loop
 loop-holds c = search patchings
 
-add-add-at : tie.Need-add-add-at Inv-loop μ-loop
-add-add-at c = search patchings
+cast-zeros : tie.Need-cast-zeros Inv-loop μ-loop
+cast-zeros c = search patchings
+
+bytes-requires : tie.Need-bytes-requires Inv-loop μ-loop
+bytes-requires c κs = search patchings
+
+cast-x : tie.Need-cast-x Inv-loop μ-loop
+cast-x c = search patchings
+
+mul-x : tie.Need-mul-x Inv-loop μ-loop
+mul-x c = search patchings
+
+add-x : tie.Need-add-x Inv-loop μ-loop
+add-x c = search patchings
 
 sub-add-at : tie.Need-sub-add-at Inv-loop μ-loop
 sub-add-at c = search patchings
@@ -25,20 +36,14 @@ sub-add-at c = search patchings
 add-at-requires : tie.Need-add-at-requires Inv-loop μ-loop
 add-at-requires c κs = search patchings
 
-bytes-requires : tie.Need-bytes-requires Inv-loop μ-loop
-bytes-requires c κs = search patchings
-
-cast-d : tie.Need-cast-d Inv-loop μ-loop
-cast-d c = search patchings
-
-add-d : tie.Need-add-d Inv-loop μ-loop
-add-d c = search patchings
+sub-bits : tie.Need-sub-bits Inv-loop μ-loop
+sub-bits c = search patchings
 
 loop-less : tie.Need-loop-less Inv-loop μ-loop
 loop-less c = search patchings
 
 loop-again : tie.Need-loop-again Inv-loop μ-loop
-loop-again c = ⊎-elim (λ w. rw (w .5) (search patchings)) (λ w. rw (w .1) (search patchings)) (c .before .if1 .came)
+loop-again c = search patchings
 
 same-length : tie.Need-same-length Inv-loop μ-loop
 same-length c = search patchings
@@ -53,12 +58,14 @@ patch-marks-spec =
     Inv-loop
     μ-loop
     loop-holds
-    add-add-at
+    cast-zeros
+    bytes-requires
+    cast-x
+    mul-x
+    add-x
     sub-add-at
     add-at-requires
-    bytes-requires
-    cast-d
-    add-d
+    sub-bits
     loop-less
     loop-again
     same-length

@@ -1,0 +1,41 @@
+use Rattle.relr_apply.proofs.PassNeeds.{bitmaps}
+use Rattle.relr_apply.proofs.patch_bitmap.Statement.{statement}
+use Rattle.relr_apply.proofs.patch_bitmap.Tie as tie
+use Rattle.relr_apply.proofs.patch_bitmap.Reads as reads
+use Rattle.relr_apply.proofs.patch_bitmap.Lts as lts
+use Rattle.relr_apply.proofs.patch_marks.Reads as patch-marks-reads
+use Rattle.relr_apply.proofs.patch_run.Reads as patch-run-reads
+use Rattle.relr_table.proofs.place.filled.Reads as filled-reads
+
+filled-requires : tie.Need-filled-requires
+filled-requires c κs = search bitmaps
+
+patch-run-requires : tie.Need-patch-run-requires
+patch-run-requires c κs = search bitmaps
+
+patch-marks-requires : tie.Need-patch-marks-requires
+patch-marks-requires c κs = search bitmaps
+
+same-length : tie.Need-same-length
+same-length c = search bitmaps
+
+returns : tie.Need-returns
+returns c = search bitmaps
+
+same-length-2 : tie.Need-same-length-2
+same-length-2 c = search bitmaps
+
+returns-2 : tie.Need-returns-2
+returns-2 c = search bitmaps
+
+pub patch-bitmap-spec : {M : Type 1} → statement M
+patch-bitmap-spec =
+    tie.close
+    (tie.spec
+    filled-requires
+    patch-run-requires
+    patch-marks-requires
+    same-length
+    returns
+    same-length-2
+    returns-2)

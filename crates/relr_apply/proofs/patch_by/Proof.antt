@@ -1,0 +1,22 @@
+use Rattle.relr_apply.proofs.PassNeeds.{classes}
+use Rattle.relr_apply.proofs.patch_by.Statement.{statement}
+use Rattle.relr_apply.proofs.patch_by.Tie as tie
+use Rattle.relr_apply.proofs.patch_by.Reads as reads
+use Rattle.relr_apply.proofs.patch_by.Lts as lts
+use Rattle.relr_apply.proofs.patch.Reads as patch-reads
+use Rattle.relr_table.proofs.place.chosen.Reads as chosen-reads
+
+chosen-requires : tie.Need-chosen-requires
+chosen-requires c κs = search classes
+
+patch-requires : tie.Need-patch-requires
+patch-requires c κs = search classes
+
+same-length : tie.Need-same-length
+same-length c = search classes
+
+returns : tie.Need-returns
+returns c = search classes
+
+pub patch-by-spec : {M : Type 1} → statement M
+patch-by-spec = tie.close (tie.spec chosen-requires patch-requires same-length returns)

@@ -1,0 +1,78 @@
+use Prim.Native.Nat.{_-_}
+use Rattle.relr_apply.proofs.PassNeeds.{Running, runnings}
+use Rattle.relr_apply.proofs.patch_run.Statement.{statement}
+use Rattle.relr_apply.proofs.patch_run.Tie as tie
+use Rattle.relr_apply.proofs.patch_run.Reads as reads
+use Rattle.relr_apply.proofs.patch_run.Lts as lts
+use Rattle.relr_apply.proofs.add_at.Reads as add-at-reads
+use Rattle.word.proofs.Class.bytes.Reads as bytes-reads
+use Rattle.word.proofs.Class.window.Reads as window-reads
+
+abbrev Inv-loop : tie.InvT-loop
+Inv-loop k image₀ base start anchor n j₀ image j = Running k image₀ base start anchor n image j
+
+abbrev μ-loop : tie.MeasureT-loop
+μ-loop k image₀ base start anchor n j₀ image j = n - j
+
+window-requires : tie.Need-window-requires Inv-loop μ-loop
+window-requires c κs = search runnings
+
+cast-n : tie.Need-cast-n Inv-loop μ-loop
+cast-n c = search runnings
+
+loop-holds : tie.Need-loop-holds Inv-loop μ-loop
+loop-holds c = search runnings
+
+bytes-requires : tie.Need-bytes-requires Inv-loop μ-loop
+bytes-requires c κs = search runnings
+
+cast-x : tie.Need-cast-x Inv-loop μ-loop
+cast-x c = search runnings
+
+mul-x : tie.Need-mul-x Inv-loop μ-loop
+mul-x c = search runnings
+
+add-x : tie.Need-add-x Inv-loop μ-loop
+add-x c = search runnings
+
+sub-add-at : tie.Need-sub-add-at Inv-loop μ-loop
+sub-add-at c = search runnings
+
+add-at-requires : tie.Need-add-at-requires Inv-loop μ-loop
+add-at-requires c κs = search runnings
+
+add-j : tie.Need-add-j Inv-loop μ-loop
+add-j c = search runnings
+
+loop-less : tie.Need-loop-less Inv-loop μ-loop
+loop-less c = search runnings
+
+loop-again : tie.Need-loop-again Inv-loop μ-loop
+loop-again c = search runnings
+
+same-length : tie.Need-same-length Inv-loop μ-loop
+same-length c = search runnings
+
+returns : tie.Need-returns Inv-loop μ-loop
+returns c = search runnings
+
+pub patch-run-spec : {M : Type 1} → statement M
+patch-run-spec =
+    tie.close
+    (tie.spec
+    Inv-loop
+    μ-loop
+    window-requires
+    cast-n
+    loop-holds
+    bytes-requires
+    cast-x
+    mul-x
+    add-x
+    sub-add-at
+    add-at-requires
+    add-j
+    loop-less
+    loop-again
+    same-length
+    returns)
