@@ -94,8 +94,8 @@ extern "C" {
  *
  *     if (reloc_version() != RELOC_VERSION) the header is not the library's
  */
-#define RELOC_VERSION 5000u
-#define RELOC_VERSION_TEXT "0.5.0"
+#define RELOC_VERSION 5001u
+#define RELOC_VERSION_TEXT "0.5.1"
 
 /* The version of the library, as RELOC_VERSION. */
 RELOC_NODISCARD

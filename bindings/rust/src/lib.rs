@@ -39,7 +39,7 @@ mod refusal;
 pub use refusal::{Kind, Refusal};
 
 /// The version of this wrapper: major × 1,000,000 + minor × 1,000 + patch.
-pub const VERSION: u32 = 5_000;
+pub const VERSION: u32 = 5_001;
 
 /// The longest table that is read or applied, in bytes.
 pub const INPUT_LIMIT: usize = 134_217_728;

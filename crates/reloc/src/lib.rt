@@ -7,8 +7,8 @@ ghost use Rattle.apa1_table.specs.Contract.{Reads as Apa1Reads, Writes as Apa1W
 ghost use Rattle.relleb_table.specs.Contract.{Reads as RellebReads, Writes as RellebWrites};
 use answer::Answer;
 
-// The version as one number: 0.5.0.
-const VERSION: u32 = 5000;
+// The version as one number: 0.5.1.
+const VERSION: u32 = 5001;
 
 #[no_mangle]
 pub extern "C" fn reloc_version() -> u32

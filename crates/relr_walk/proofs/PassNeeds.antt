@@ -31,7 +31,7 @@ use Rattle.relr_table.specs.declared.place.Opened.{Opened}
 use Rattle.relr_table.specs.declared.place.Opened.the-variants.{Address, Marks, Refused}
 use Rattle.relr_table.specs.Inner.{marksOf, OpensAt, Whole, wordsRead, between, Standing}
 use Rattle.relr_walk.specs.declared.skim.Passed.{Passed}
-use Rattle.relr_walk.specs.Inner.{grow, surveyed, none, Leads, Scanned, ScannedTo, Skimmable, Skims}
+use Rattle.relr_walk.specs.Inner.{grow, surveyed, none, Leads, Scanned, ScannedTo, Skimmable, Skims, origin, Begun}
 use Rattle.relr_table.proofs.Decoding.{decode-long, decode-part, decode-whole}
 use Rattle.relr_walk.proofs.SkimNeeds.{long, scan-load}
 use Rattle.relr_walk.proofs.Leads.{leads-begin, leads-more, leads-end}
@@ -64,6 +64,12 @@ pub ruleset counting = (grow-in, grow-here, grow-before, survey-all, survey-not,
 -- ---- between two words
 pub scan-begin : {k : Class} {s : List ℕ} (low high : ℕ) → Whole k s → Scanned k s low high 0 Nowhere 0 none
 scan-begin {k} {s} low high h = record { list = []; standing = standing-begin k s h; counted = refl; lead = leads-begin (between low high); few = omega arith }
+
+pub scan-from : {k : Class} {s : List ℕ} {low high : ℕ} {from : Passed} → Begun k s low high from → ScannedTo k s low high from none
+scan-from b = b .skimmed .on none (scan-begin _ _ (b .whole))
+
+pub scan-whole : {k : Class} {s : List ℕ} {low high : ℕ} {from : Passed} → Begun k s low high from → Whole k s
+scan-whole b = b .whole
 
 pub skim-allowed : {k : Class} {s : List ℕ} {low high at count first : ℕ} {p : Place} → Whole k s → Scanned k s low high at p count first
     → Skimmable k s low high (record { at = at; place = p; count = count })
@@ -196,7 +202,7 @@ module _ {k : Class} {s : List ℕ} {low high at count first anchor set : ℕ} {
         few = omega (arith, h .counted, length-append (h .list) (h .passed), ap length e, most, h .few, bytes-least k, bytes-most k);
       }
 
-pub ruleset scans = (scan-begin, skim-allowed, scan-fetch, scan-less, scan-end, scan-refused, scan-count, scan-one, scan-reach, walk-begin, walk-offset, walk-far, walk-set, walk-small, walk-count, walk-done, zeros-fit, zeros-far, zeros-less, step-fits, step-less, needs)
+pub ruleset scans = (scan-from, scan-whole, skim-allowed, scan-fetch, scan-less, scan-end, scan-refused, scan-count, scan-one, scan-reach, walk-begin, walk-offset, walk-far, walk-set, walk-small, walk-count, walk-done, zeros-fit, zeros-far, zeros-less, step-fits, step-less, needs)
 
 -- ---- the first pass over any bytes
 module _ (k : Class) (s : List ℕ) (low high : ℕ) where
@@ -206,11 +212,33 @@ module _ (k : Class) (s : List ℕ) (low high : ℕ) where
   pub find-part : {r : ℕ} → r ≡ length s % bytesOf k → 0 < r → length s ≤ inputLimit → found.Refused Missing (length s) ≡ foundOf (contained (between low high) (decode k s))
   find-part e g h = sym (found-refused (contained-refused (between low high) (decode-part k s h λ z. omega arith)))
 
-  pub find-whole : {r : ℕ} → r ≡ length s % bytesOf k → r ≤ 0 → length s ≤ inputLimit → Whole k s
-  find-whole e z h = record { words = omega arith; few = h }
+  module _ {r : ℕ} (e : r ≡ length s % bytesOf k) (z : r ≤ 0) (h : length s ≤ inputLimit) where
+    whole : Whole k s
+    whole = record { words = omega arith; few = h }
 
-  pub find-words : {r : ℕ} {f : Found} → f ≡ foundOf (contained (between low high) (wordsRead k s)) → r ≡ length s % bytesOf k → r ≤ 0 → length s ≤ inputLimit
-      → f ≡ foundOf (contained (between low high) (decode k s))
-  find-words q e z h = q ∙ ap (λ (o : Outcome (List ℕ)). foundOf (contained (between low high) o)) (sym (decode-whole k s (find-whole e z h)))
+    pub find-begin : Skimmable k s low high origin
+    find-begin = skim-allowed whole (scan-begin low high whole)
 
-pub ruleset finding = (find-long, find-part, find-whole, find-words, needs)
+    pub find-words : {f : Found} → f ≡ foundOf (contained (between low high) (wordsRead k s)) → f ≡ foundOf (contained (between low high) (decode k s))
+    find-words q = q ∙ ap (λ (o : Outcome (List ℕ)). foundOf (contained (between low high) o)) (sym (decode-whole k s whole))
+
+    module _ {q : Passed} (p : Skims k s low high origin q) where
+      pub find-rest : Begun k s low high q
+      find-rest = record { whole = whole; skimmed = p }
+
+      pub find-all : length s ≤ q .at → Count (q .count) ≡ foundOf (contained (between low high) (decode k s))
+      find-all l =
+          let b = scan-begin low high whole in
+          find-words (scan-end b p whole (survey-all (omega (arith, scan-small b p whole))) l)
+
+pub ruleset finding = (find-long, find-part, find-begin, find-words, find-rest, find-all, needs)
+
+-- ---- one class by two names
+module _ {k j : Class} (e : k ≡ j) (s : List ℕ) (low high : ℕ) {f : Found} where
+  pub found-to : f ≡ foundOf (contained (between low high) (decode k s)) → f ≡ foundOf (contained (between low high) (decode j s))
+  found-to = subst (λ (i : Class). f ≡ foundOf (contained (between low high) (decode i s))) e
+
+  pub found-from : f ≡ foundOf (contained (between low high) (decode j s)) → f ≡ foundOf (contained (between low high) (decode k s))
+  found-from = subst (λ (i : Class). f ≡ foundOf (contained (between low high) (decode i s))) (sym e)
+
+pub ruleset classes = (found-to, found-from, needs)

@@ -26,12 +26,12 @@ use Rattle.relr_table.specs.Inner.{marksOf, Marked, Whole, between}
 use Rattle.relr_walk.specs.declared.skim.Passed.{Passed}
 use Rattle.relr_walk.specs.declared.skim.Stepped.{Stepped}
 use Rattle.relr_walk.specs.declared.skim.Stepped.the-variants.{One, Many, Stops}
-use Rattle.relr_walk.specs.Inner.{Scanned, Skimmable, Skims, Fence, Cleared, Steps}
+use Rattle.relr_walk.specs.Inner.{Scanned, Skimmable, Skims, Top, Fence, Cleared, Steps}
 use Rattle.relr_walk.proofs.Leads.{leads-all}
 use Rattle.relr_table.proofs.Marked.{On, all-map, marked-on, marked-most}
 use Rattle.relr_table.proofs.PlaceNeeds.{one-mark, address-marks, bitmap-at, half-fits}
 use Rattle.relr_table.proofs.SetBits.{ones-are, ones-fit}
-use Rattle.relr_table.proofs.Passed.{all-fit, standing-load, word-marked, word-done, step-fits, step-less, space-most}
+use Rattle.relr_table.proofs.Passed.{all-fit, fit-one, standing-load, word-marked, word-done, step-fits, step-less, space-most}
 
 -- ---- the two ends
 module _ (low high x : ℕ) where
@@ -75,6 +75,23 @@ module _ (k : Class) (high width last : ℕ) (e : width ≡ windowOf k * bytesOf
 
 pub ruleset fences = (fence-none, fence-last, fence-high, fence-room, needs)
 
+-- ---- addresses that do
+module _ (k : Class) (high last c : ℕ) (g : last + bytesOf k ≡ spaceOf k) (ce : c ≡ bytesOf k) where
+  pub top-last : last - c < high → Top k high (last - c)
+  top-last h x l = (omega arith, omega arith)
+
+  pub top-high : high ≤ last - c → Top k high high
+  top-high h x l = (omega arith, l)
+
+  pub top-room : c ≤ last
+  top-room = go k ce g
+    where
+      go : (j : Class) → c ≡ bytesOf j → last + bytesOf j ≡ spaceOf j → c ≤ last
+      go Four e g = omega arith
+      go Eight e g = omega arith
+
+pub ruleset tops = (top-last, top-high, top-room, needs)
+
 -- ---- a bitmap's locations, counted
 pub ruleset tallies = (ones-are, ones-fit, needs)
 
@@ -113,37 +130,45 @@ module _ {k : Class} {low high clear : ℕ} (f : Fence k high clear) where
             (λ y z. true-between low high y (omega (arith, z .0)) (omega (arith, z .1, bytes-least k))) l (window-all k anchor bits high in-high);
       }
 
-module _ (k : Class) (low clear : ℕ) {b : Bool} where
-  pub step-address : {x c : ℕ} → x % 2 ≡ 0 → b ≡ between low clear x → b ≡ true → c ≡ bytesOf k → (p : Place) (high : ℕ) → Fence k high clear
+module _ (k : Class) (low top clear : ℕ) {b : Bool} where
+  pub step-address : {x c : ℕ} → x % 2 ≡ 0 → b ≡ between low top x → b ≡ true → c ≡ bytesOf k → (p : Place) (high : ℕ) → Top k high top → Fence k high clear
       → Steps k low high p x (One (x + c))
-  step-address {x} {c} even be was ce p high f w s =
-      let t = sym be ∙ was in
-      let (in-space, in-high) = f x (between-true low clear x t .1) in
-      let r = spaceOf k - bytesOf k in
-      clears f
-      (address-marks k x r even (omega (arith, window-some k)) (omega (arith, window-some k)) ce (inside refl (omega (arith, window-some k))) w)
-      (sym (ap length (one-mark k x))) t
+  step-address {x} {c} even be was ce p high t f w s =
+      let (l, lt) = between-true low top x (sym be ∙ was) in
+      let (in-space, in-high) = t x lt in
+      let one = one-mark k x in
+      record {
+        anchor = x;
+        bits = 1;
+        marked = address-marks k x (spaceOf k - bytesOf k) even (omega arith) (omega arith) ce (inside refl (omega arith)) w;
+        counted = sym (ap length one);
+        fits = rw one (fit-one (bytesOf k) (spaceOf k) x (omega arith));
+        each = rw one (true-between low high x l in-high, tt);
+      }
+
+  pub step-word : ((high : ℕ) × Top k high top × Fence k high clear) → (x : ℕ) {c : ℕ} → b ≡ between low top x → b ≡ true → c ≡ bytesOf k → Fits w64 (x + c)
+  step-word (high, t, f) x be was ce =
+      let (in-space, in-high) = t x (between-true low top x (sym be ∙ was) .1) in
+      record { fits = omega (arith, space-most k, bytes-least k) }
 
   pub step-bitmap : {x d n : ℕ} {p : Place} → (x % 2 ≡ 0 → ⊥) → x < spaceOf k → b ≡ between low clear p → b ≡ true → d ≡ windowOf k * bytesOf k
-      → ((c m u : ℕ) → x / 2 < 2 ^ m → n ≡ length (marked c m (x / 2) u)) → (high : ℕ) → Fence k high clear → Steps k low high p x (Many n (p + d))
-  step-bitmap {x} {d} {n} {p} odd small be was de tells high f w s =
-      let t = sym be ∙ was in
-      let (in-space, in-high) = f p (between-true low clear p t .1) in
+      → ((c m u : ℕ) → x / 2 < 2 ^ m → n ≡ length (marked c m (x / 2) u)) → (high : ℕ) → Top k high top → Fence k high clear → Steps k low high p x (Many n (p + d))
+  step-bitmap {x} {d} {n} {p} odd small be was de tells high t f w s =
+      let q = sym be ∙ was in
+      let (in-space, in-high) = f p (between-true low clear p q .1) in
       let r = spaceOf k - bytesOf k in
       let h = half-fits k x small in
       clears f
       (bitmap-at k p (x / 2) x (omega arith) refl {r = r} (omega (arith, window-some k)) (omega (arith, window-some k)) h de (inside refl (omega arith)) w s)
-      (tells (bytesOf k) (windowOf k) p h) t
+      (tells (bytesOf k) (windowOf k) p h) q
 
-  module _ (some : (high : ℕ) × Fence k high clear) (u : ℕ) (be : b ≡ between low clear u) (was : b ≡ true) where
-    pub step-word : {c : ℕ} → c ≡ bytesOf k → Fits w64 (u + c)
-    step-word ce = let (in-space, in-high) = some .1 u (between-true low clear u (sym be ∙ was) .1) in record { fits = omega (arith, window-some k, space-most k, bytes-least k) }
+  pub step-stride : ((high : ℕ) × Top k high top × Fence k high clear) → (p : ℕ) {d : ℕ} → b ≡ between low clear p → b ≡ true → d ≡ windowOf k * bytesOf k → Fits w64 (p + d)
+  step-stride (high, t, f) p be was de =
+      let (in-space, in-high) = f p (between-true low clear p (sym be ∙ was) .1) in
+      record { fits = omega (arith, space-most k, bytes-least k) }
 
-    pub step-stride : {d : ℕ} → d ≡ windowOf k * bytesOf k → Fits w64 (u + d)
-    step-stride de = let (in-space, in-high) = some .1 u (between-true low clear u (sym be ∙ was) .1) in record { fits = omega (arith, space-most k, bytes-least k) }
-
-pub step-stops : (k : Class) (low clear : ℕ) (p : Place) (x high : ℕ) → Fence k high clear → Steps k low high p x Stops
-step-stops k low clear p x high f = tt
+pub step-stops : (k : Class) (low top clear : ℕ) (p : Place) (x high : ℕ) → Top k high top → Fence k high clear → Steps k low high p x Stops
+step-stops k low top clear p x high t f = tt
 
 pub ruleset steps = (step-address, step-bitmap, step-word, step-stride, step-stops, half-fits, needs)
 
@@ -203,11 +228,11 @@ module _ {k : Class} {s : List ℕ} {low high : ℕ} {from : Passed} (a : Skimma
       → Skimming k s low high (from .at) (from .place) (from .count) (at + c) next (count + n)
   further l e z ce = record { ahead = omega (arith, g .ahead); on = λ first h. rw ce (scan-step (g .on first h) l e z) }
 
-  module _ {clear x : ℕ} {next : Place} {r : Stepped} (l : at < length s) (e : x ≡ wordAt (bytesOf k) s at) (f : Fence k high clear)
-      (o : (high : ℕ) → Fence k high clear → Steps k low high p x r) where
+  module _ {top clear x : ℕ} {next : Place} {r : Stepped} (l : at < length s) (e : x ≡ wordAt (bytesOf k) s at) (t : Top k high top) (f : Fence k high clear)
+      (o : (high : ℕ) → Top k high top → Fence k high clear → Steps k low high p x r) where
     module _ (q : r ≡ One next) where
       one : (w : Where) → Stands k w p → Cleared k low high w x 1 next
-      one = subst (Steps k low high p x) q (o high f)
+      one = subst (Steps k low high p x) q (o high t f)
 
       pub one-sum : Fits w64 (count + 1)
       one-sum = scan-sum now l e one (a .whole)
@@ -217,7 +242,7 @@ module _ {k : Class} {s : List ℕ} {low high : ℕ} {from : Passed} (a : Skimma
 
     module _ {n : ℕ} (q : r ≡ Many n next) where
       many : (w : Where) → Stands k w p → Cleared k low high w x n next
-      many = subst (Steps k low high p x) q (o high f)
+      many = subst (Steps k low high p x) q (o high t f)
 
       pub many-sum : Fits w64 (count + n)
       many-sum = scan-sum now l e many (a .whole)

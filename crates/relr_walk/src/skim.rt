@@ -5,7 +5,7 @@ ghost use lib.ListN.{length};
 ghost use Rattle.relr_table.specs.Words.{marked};
 ghost use Rattle.relr_table.specs.Table.{spaceOf};
 ghost use Rattle.relr_table.specs.Inner.{flagged, between};
-ghost use Rattle.relr_walk.specs.Inner.{Fence, Steps, Skimmable, Skims};
+ghost use Rattle.relr_walk.specs.Inner.{Top, Fence, Steps, Skimmable, Skims};
 use relr_table::place;
 use word::Class;
 
@@ -34,6 +34,17 @@ fn fence(k: Class, high: u64) -> u64
     high - width
 }
 
+// An address less than this is less than `high`, and the word after its own lies inside the space.
+fn top(k: Class, high: u64) -> u64
+    ensures { λ r. ⌜ Top k high r ⌝ }
+{
+    let most = k.last() - k.bytes() as u64;
+    if most < high {
+        return most;
+    }
+    high
+}
+
 // How many locations the bits of a bitmap mark, whatever its class.
 fn marks(set: u64) -> u64
     ensures { λ r. ⌜ ((c n anchor : ℕ) → set < 2 ^ n → r ≡ length (marked c n set anchor)) ⌝ }
@@ -48,13 +59,13 @@ pub enum Stepped {
     Stops,
 }
 
-// Passes the word x at a place if a bitmap anchored where it points would lie between the two ends, so that all it marks does.
-fn step(k: Class, low: u64, clear: u64, place: u64, x: u64) -> Stepped
-    requires { ⌜ (x < spaceOf k) × ((high : ℕ) × Fence k high clear) ⌝ }
-    ensures { λ r. ⌜ ((high : ℕ) → Fence k high clear → Steps k low high place x r) ⌝ }
+// Passes the word x at a place if it lies between the two ends: an address, or a bitmap with all that it can mark.
+fn step(k: Class, low: u64, top: u64, clear: u64, place: u64, x: u64) -> Stepped
+    requires { ⌜ (x < spaceOf k) × ((high : ℕ) × Top k high top × Fence k high clear) ⌝ }
+    ensures { λ r. ⌜ ((high : ℕ) → Top k high top → Fence k high clear → Steps k low high place x r) ⌝ }
 {
     if x % 2 == 0 {
-        if within(low, clear, x) {
+        if within(low, top, x) {
             return Stepped::One(x + k.bytes() as u64);
         }
         return Stepped::Stops;
@@ -73,17 +84,18 @@ pub struct Passed {
 }
 
 // Passes the words from here on that lie between the two ends: a comparison with each end for a word, none for a bit.
-fn pass(k: Class, s: &[u8], low: u64, high: u64, from: Passed) -> Passed
+pub fn pass(k: Class, s: &[u8], low: u64, high: u64, from: Passed) -> Passed
     requires { ⌜ Skimmable k (now s) low high from ⌝ }
     ensures { λ r. ⌜ Skims k (now (s .entry)) low high from r ⌝ }
 {
     let c = k.bytes() as usize;
+    let top = top(k, high);
     let clear = fence(k, high);
     let mut at = from.at;
     let mut place = from.place;
     let mut count = from.count;
     while at < s.len() {
-        let stepped = step(k, low, clear, place, word::load(k, s, at));
+        let stepped = step(k, low, top, clear, place, word::load(k, s, at));
         match stepped {
             Stepped::Stops => {
                 return Passed { at, place, count };

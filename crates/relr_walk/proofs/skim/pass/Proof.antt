@@ -7,20 +7,24 @@ use Rattle.relr_walk.proofs.skim.pass.Reads as reads
 use Rattle.relr_walk.proofs.skim.pass.Lts as lts
 use Rattle.relr_walk.proofs.skim.fence.Reads as fence-reads
 use Rattle.relr_walk.proofs.skim.step.Reads as step-reads
+use Rattle.relr_walk.proofs.skim.top.Reads as top-reads
 use Rattle.word.proofs.Class.bytes.Reads as bytes-reads
 use Rattle.word.proofs.load.Reads as load-reads
 
 abbrev Inv-loop : tie.InvT-loop
-Inv-loop k s low high c clear at₀ place₀ count₀ at place count = Skimming k s low high at₀ place₀ count₀ at place count
+Inv-loop k s low high c top clear at₀ place₀ count₀ at place count = Skimming k s low high at₀ place₀ count₀ at place count
 
 abbrev μ-loop : tie.MeasureT-loop
-μ-loop k s low high c clear at₀ place₀ count₀ at place count = length s - at
+μ-loop k s low high c top clear at₀ place₀ count₀ at place count = length s - at
 
 bytes-requires : tie.Need-bytes-requires Inv-loop μ-loop
 bytes-requires c κs = search skims
 
 cast-c : tie.Need-cast-c Inv-loop μ-loop
 cast-c c = search skims
+
+top-requires : tie.Need-top-requires Inv-loop μ-loop
+top-requires c κs = search skims
 
 fence-requires : tie.Need-fence-requires Inv-loop μ-loop
 fence-requires c κs = search skims
@@ -81,6 +85,7 @@ pass-spec =
     μ-loop
     bytes-requires
     cast-c
+    top-requires
     fence-requires
     loop-holds
     load-requires
