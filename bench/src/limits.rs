@@ -1,5 +1,6 @@
 //! Each call on tables and lists up to its limit.
 
+use crate::bits::BitByBit;
 use crate::programs::{Program, library, rust};
 use crate::rows::{Row, START};
 use reference::corpus::calls::{
@@ -39,7 +40,7 @@ pub fn rows() -> Vec<(Row, usize)> {
 /// The best times in seconds, of the library and of the Rust program.
 pub fn seconds(row: &Row, size: usize) -> [f64; 2] {
     let mut case = (row.case)(size);
-    [library, rust].map(|program: Program| {
+    [library, rust::<BitByBit>].map(|program: Program| {
         let times = (0..ROUNDS).map(|_| {
             let begin = Instant::now();
             let answer = black_box(program)(black_box(&mut case));

@@ -1,6 +1,7 @@
 //! Measures every row and prints the figures as Markdown.
 
-use bench::measure::{Measured, measured};
+use bench::measure::{Times, measured};
+use bench::programs::WAYS;
 use bench::{limits, rows};
 
 /// The numbers of records that a row is measured with.
@@ -10,7 +11,7 @@ const SIZES: [usize; 4] = [10_000, 100_000, 1_000_000, 4_000_000];
 const FIRST: usize = 2;
 
 /// A row's name, and what was measured at each size.
-type Result = (String, [Measured; 4]);
+type Result = (String, [Vec<Times>; 4]);
 
 /// Measures the rows whose names contain the argument, or all.
 fn main() {
@@ -34,10 +35,14 @@ fn print_ratios(results: &[Result]) {
     println!("| row | ns per record | over Rust, best | median | over C, best | median |");
     println!("|---|--:|--:|--:|--:|--:|");
     for (name, sizes) in results {
-        let Measured { ours, rust, c } = &sizes[FIRST];
-        print!("| {name} | {:.2} ", ours.best);
-        print!("| {:.2} | {:.2} ", ours.best / rust.best, ours.median / rust.median);
-        println!("| {:.2} | {:.2} |", ours.best / c.best, ours.median / c.median);
+        let times = &sizes[FIRST];
+        for (way, [rust, c]) in WAYS.iter().zip(times[1..].as_chunks().0) {
+            let ours = &times[0];
+            let way = if times.len() > 3 { format!(", {way}") } else { String::new() };
+            print!("| {name}{way} | {:.2} ", ours.best);
+            print!("| {:.2} | {:.2} ", ours.best / rust.best, ours.median / rust.median);
+            println!("| {:.2} | {:.2} |", ours.best / c.best, ours.median / c.median);
+        }
     }
 }
 
@@ -47,7 +52,7 @@ fn print_growth(results: &[Result]) {
     println!("| row | {} | last over first |", SIZES.map(|size| size.to_string()).join(" | "));
     println!("|---|{}", "--:|".repeat(SIZES.len() + 1));
     for (name, sizes) in results {
-        let best = sizes.each_ref().map(|measured| measured.ours.best);
+        let best = sizes.each_ref().map(|times| times[0].best);
         let cells = best.map(|time| format!("{time:.2}")).join(" | ");
         println!("| {name} | {cells} | {:.2} |", best[SIZES.len() - 1] / best[0]);
     }
