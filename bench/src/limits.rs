@@ -17,8 +17,8 @@ use std::time::Instant;
 /// How often a call is made; the best time counts.
 const ROUNDS: usize = 5;
 
-/// A row's case by its size, and the limit of that size: bytes of a table, or records of a list.
-pub fn rows() -> Vec<(Row, usize)> {
+/// A row for each call; its sizes are bytes of a table, or records of a list.
+pub fn rows() -> Vec<Row> {
     let mut rows = Vec::new();
     for class in [4, 8] {
         rows.push(table("RELR read", class, move |bytes| relr_read(class, bytes)));
@@ -52,12 +52,12 @@ pub fn seconds(row: &Row, size: usize) -> [f64; 2] {
     })
 }
 
-fn table(call: &str, class: u32, case: impl Fn(usize) -> Case + 'static) -> (Row, usize) {
-    (Row { name: named(call, class), case: Box::new(case) }, INPUT_LIMIT)
+fn table(call: &str, class: u32, case: impl Fn(usize) -> Case + 'static) -> Row {
+    Row { name: named(call, class), sizes: &[INPUT_LIMIT / 4, INPUT_LIMIT], case: Box::new(case) }
 }
 
-fn list(call: &str, class: u32, case: impl Fn(usize) -> Case + 'static) -> (Row, usize) {
-    (Row { name: named(call, class), case: Box::new(case) }, LIST_LIMIT)
+fn list(call: &str, class: u32, case: impl Fn(usize) -> Case + 'static) -> Row {
+    Row { name: named(call, class), sizes: &[LIST_LIMIT / 4, LIST_LIMIT], case: Box::new(case) }
 }
 
 fn named(call: &str, class: u32) -> String {

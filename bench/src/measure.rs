@@ -15,6 +15,10 @@ const ROUNDS: usize = 31;
 /// The least time that the rounds of a row take.
 const LEAST: Duration = Duration::from_millis(500);
 
+/// The least number of records that a program goes through in a round, in as many calls as that
+/// takes.
+const RECORDS: usize = 10_000;
+
 /// The times of a program, in nanoseconds per record.
 #[derive(Clone, Copy)]
 pub struct Times {
@@ -36,23 +40,24 @@ pub fn checked(row: &Row, records: usize) -> Case {
     case
 }
 
-/// The times of a row's programs in rounds: each makes the call once a round, on the same buffers,
+/// The times of a row's programs in rounds: each makes its calls once a round, on the same buffers,
 /// in changing order.
 pub fn measured(row: &Row, records: usize) -> Vec<Times> {
     let mut case = checked(row, records);
     let programs = programs(case.call);
+    let calls = (RECORDS / records).max(1);
     let mut spent = vec![Vec::new(); programs.len()];
     let (begin, mut round) = (Instant::now(), 0);
     while round < WARM_UP + ROUNDS || begin.elapsed() < LEAST {
         for which in order(round, programs.len()) {
-            let time = timed(programs[which], &mut case);
+            let time = timed(programs[which], calls, &mut case);
             if round >= WARM_UP {
                 spent[which].push(time);
             }
         }
         round += 1;
     }
-    spent.into_iter().map(|times| summed_up(times, records)).collect()
+    spent.into_iter().map(|times| summed_up(times, calls * records)).collect()
 }
 
 /// The order of a round: each program has each place, and they come in both directions.
@@ -64,10 +69,12 @@ fn order(round: usize, programs: usize) -> impl Iterator<Item = usize> {
     })
 }
 
-/// The time of one call.
-fn timed(program: Program, case: &mut Case) -> Duration {
+/// The time of so many calls.
+fn timed(program: Program, calls: usize, case: &mut Case) -> Duration {
     let begin = Instant::now();
-    black_box(black_box(program)(black_box(case))).ok();
+    for _ in 0..calls {
+        black_box(black_box(program)(black_box(case))).ok();
+    }
     begin.elapsed()
 }
 

@@ -34,7 +34,7 @@ fn all_on_the_rows() {
 /// And on tables and lists such as are measured at the limits.
 #[test]
 fn all_below_the_limits() {
-    for (row, _) in limits::rows() {
+    for row in limits::rows() {
         for size in [64, 1_000] {
             checked(&row, size);
         }
