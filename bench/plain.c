@@ -4,6 +4,7 @@
  * bytes, an apply additions. The words of memory must be little-endian, as those
  * of the tables are.
  */
+#include <stdbool.h>
 #include <stddef.h>
 #include <stdint.h>
 #include <string.h>
@@ -31,8 +32,14 @@ BODY void store(uint32_t class_, uint8_t *at, uint64_t word) {
     memcpy(at, &word, class_);
 }
 
-/* Reads RELR: the loaders' loop, bit by bit. */
-BODY size_t relr_read(uint32_t class_, const uint8_t *table, size_t length, uint64_t *offsets) {
+/* Adds the base to the word at a place. */
+BODY void add(uint32_t class_, uint8_t *at, uint64_t base) {
+    store(class_, at, load(class_, at) + base);
+}
+
+/* Reads RELR: the loaders' loop, bit by bit or by trailing zeros. */
+BODY size_t relr_read(uint32_t class_, bool zeros, const uint8_t *table, size_t length,
+                      uint64_t *offsets) {
     uint64_t *next = offsets;
     uint64_t start = 0;
     for (const uint8_t *at = table; at != table + length; at += class_) {
@@ -42,33 +49,39 @@ BODY size_t relr_read(uint32_t class_, const uint8_t *table, size_t length, uint
             start = word + class_;
             continue;
         }
-        for (uint64_t k = 0; (word >>= 1) != 0; k++)
+        for (uint64_t k = 0; !zeros && (word >>= 1) != 0; k++)
             if (word & 1)
                 *next++ = start + k * class_;
+        for (word >>= 1; zeros && word != 0; word &= word - 1)
+            *next++ = start + (uint64_t)__builtin_ctzll(word) * class_;
         start += window_of(class_) * class_;
     }
     return (size_t)(next - offsets);
 }
 
 /* Applies RELR: the same loop, with an addition at each offset less the start. */
-BODY size_t relr_apply(uint32_t class_, const uint8_t *table, size_t length, uint64_t base,
-                       uint64_t start, uint8_t *image) {
+BODY size_t relr_apply(uint32_t class_, bool zeros, const uint8_t *table, size_t length,
+                       uint64_t base, uint64_t start, uint8_t *image) {
     size_t count = 0;
     uint8_t *where = image;
     for (const uint8_t *at = table; at != table + length; at += class_) {
         uint64_t word = load(class_, at);
         if ((word & 1) == 0) {
             where = image + (word - start);
-            store(class_, where, load(class_, where) + base);
+            add(class_, where, base);
             where += class_;
             count++;
             continue;
         }
-        for (uint8_t *place = where; (word >>= 1) != 0; place += class_)
+        for (uint8_t *place = where; !zeros && (word >>= 1) != 0; place += class_)
             if (word & 1) {
-                store(class_, place, load(class_, place) + base);
+                add(class_, place, base);
                 count++;
             }
+        for (word >>= 1; zeros && word != 0; word &= word - 1) {
+            add(class_, where + (uint64_t)__builtin_ctzll(word) * class_, base);
+            count++;
+        }
         where += window_of(class_) * class_;
     }
     return count;
@@ -200,7 +213,13 @@ BODY size_t relleb_write(uint32_t class_, const uint64_t *offsets, const uint32_
 
 /* Reads RELR, for either class. */
 size_t plain_relr_read(uint32_t class_, const uint8_t *table, size_t length, uint64_t *offsets) {
-    return BY_CLASS(relr_read, table, length, offsets);
+    return BY_CLASS(relr_read, false, table, length, offsets);
+}
+
+/* The same by trailing zeros. */
+size_t plain_relr_read_by_zeros(uint32_t class_, const uint8_t *table, size_t length,
+                                uint64_t *offsets) {
+    return BY_CLASS(relr_read, true, table, length, offsets);
 }
 
 /* Writes RELR, for either class. */
@@ -211,7 +230,13 @@ size_t plain_relr_write(uint32_t class_, const uint64_t *offsets, size_t count, 
 /* Applies RELR, for either class. */
 size_t plain_relr_apply(uint32_t class_, const uint8_t *table, size_t length, uint64_t base,
                         uint64_t start, uint8_t *image) {
-    return BY_CLASS(relr_apply, table, length, base, start, image);
+    return BY_CLASS(relr_apply, false, table, length, base, start, image);
+}
+
+/* The same by trailing zeros. */
+size_t plain_relr_apply_by_zeros(uint32_t class_, const uint8_t *table, size_t length,
+                                 uint64_t base, uint64_t start, uint8_t *image) {
+    return BY_CLASS(relr_apply, true, table, length, base, start, image);
 }
 
 /* Reads APR1. */

@@ -1,5 +1,6 @@
 //! Each call on tables and lists up to its limit.
 
+use crate::bits::BitByBit;
 use crate::programs::{Program, library, rust};
 use crate::rows::{Row, START};
 use reference::corpus::calls::{
@@ -16,8 +17,8 @@ use std::time::Instant;
 /// How often a call is made; the best time counts.
 const ROUNDS: usize = 5;
 
-/// A row's case by its size, and the limit of that size: bytes of a table, or records of a list.
-pub fn rows() -> Vec<(Row, usize)> {
+/// A row for each call; its sizes are bytes of a table, or records of a list.
+pub fn rows() -> Vec<Row> {
     let mut rows = Vec::new();
     for class in [4, 8] {
         rows.push(table("RELR read", class, move |bytes| relr_read(class, bytes)));
@@ -39,7 +40,7 @@ pub fn rows() -> Vec<(Row, usize)> {
 /// The best times in seconds, of the library and of the Rust program.
 pub fn seconds(row: &Row, size: usize) -> [f64; 2] {
     let mut case = (row.case)(size);
-    [library, rust].map(|program: Program| {
+    [library, rust::<BitByBit>].map(|program: Program| {
         let times = (0..ROUNDS).map(|_| {
             let begin = Instant::now();
             let answer = black_box(program)(black_box(&mut case));
@@ -51,12 +52,12 @@ pub fn seconds(row: &Row, size: usize) -> [f64; 2] {
     })
 }
 
-fn table(call: &str, class: u32, case: impl Fn(usize) -> Case + 'static) -> (Row, usize) {
-    (Row { name: named(call, class), case: Box::new(case) }, INPUT_LIMIT)
+fn table(call: &str, class: u32, case: impl Fn(usize) -> Case + 'static) -> Row {
+    Row { name: named(call, class), sizes: &[INPUT_LIMIT / 4, INPUT_LIMIT], case: Box::new(case) }
 }
 
-fn list(call: &str, class: u32, case: impl Fn(usize) -> Case + 'static) -> (Row, usize) {
-    (Row { name: named(call, class), case: Box::new(case) }, LIST_LIMIT)
+fn list(call: &str, class: u32, case: impl Fn(usize) -> Case + 'static) -> Row {
+    Row { name: named(call, class), sizes: &[LIST_LIMIT / 4, LIST_LIMIT], case: Box::new(case) }
 }
 
 fn named(call: &str, class: u32) -> String {

@@ -1,5 +1,6 @@
 //! The calls of plain.c.
 
+use crate::bits::Bits;
 use reference::corpus::calls::{
     APA1_READ, APA1_WRITE, APR1_READ, APR1_WRITE, RELLEB_READ, RELLEB_WRITE, RELR_APPLY, RELR_READ,
     RELR_WRITE,
@@ -10,9 +11,25 @@ use reference::corpus::case::Case;
 unsafe extern "C" {
     fn plain_relr_read(class: u32, table: *const u8, length: usize, offsets: *mut u64) -> usize;
 
+    fn plain_relr_read_by_zeros(
+        class: u32,
+        table: *const u8,
+        length: usize,
+        offsets: *mut u64,
+    ) -> usize;
+
     fn plain_relr_write(class: u32, offsets: *const u64, count: usize, table: *mut u8) -> usize;
 
     fn plain_relr_apply(
+        class: u32,
+        table: *const u8,
+        length: usize,
+        base: u64,
+        start: u64,
+        image: *mut u8,
+    ) -> usize;
+
+    fn plain_relr_apply_by_zeros(
         class: u32,
         table: *const u8,
         length: usize,
@@ -55,7 +72,7 @@ unsafe extern "C" {
 }
 
 /// Makes the call of a case that is known to be accepted: nothing is checked.
-pub unsafe fn run(case: &mut Case) -> usize {
+pub unsafe fn run<B: Bits>(case: &mut Case) -> usize {
     let count = case.offsets.len();
     let (i, length) = (case.input.as_ptr(), case.input.len());
     let (o, t) = (case.offsets.as_mut_ptr(), case.types.as_mut_ptr());
@@ -64,8 +81,12 @@ pub unsafe fn run(case: &mut Case) -> usize {
     // SAFETY: an accepted case has every buffer that its call needs, with room; no two overlap.
     unsafe {
         match case.call {
+            RELR_READ if B::ZEROS => plain_relr_read_by_zeros(case.class, i, length, o),
             RELR_READ => plain_relr_read(case.class, i, length, o),
             RELR_WRITE => plain_relr_write(case.class, o, count, b),
+            RELR_APPLY if B::ZEROS => {
+                plain_relr_apply_by_zeros(case.class, i, length, case.base, case.start, b)
+            }
             RELR_APPLY => plain_relr_apply(case.class, i, length, case.base, case.start, b),
             APR1_READ => plain_apr1_read(i, o),
             APR1_WRITE => plain_apr1_write(o, count, b),

@@ -1,5 +1,6 @@
 //! The call of a case, made by each program on the case's own buffers.
 
+use crate::bits::{BitByBit, Bits, TrailingZeros};
 use crate::{baseline, plain};
 use reference::corpus::calls::{
     APA1_READ, APA1_WRITE, APR1_READ, APR1_WRITE, RELLEB_READ, RELLEB_WRITE, RELR_APPLY, RELR_READ,
@@ -11,16 +12,30 @@ use reloc::Refusal;
 /// A program: it makes the call of a case and leaves the results in it.
 pub type Program = fn(&mut Case) -> Result<usize, Refusal>;
 
-/// Makes the call of a case by the functions of a module.
+/// The ways through bitmaps, by name.
+pub const WAYS: [&str; 2] = ["bit by bit", "by trailing zeros"];
+
+/// The library, then Rust and C in each way.
+const PROGRAMS: [Program; 5] =
+    [library, rust::<BitByBit>, c::<BitByBit>, rust::<TrailingZeros>, c::<TrailingZeros>];
+
+/// The programs that make a call: only reading and applying RELR go through bitmaps.
+pub(crate) fn programs(call: u8) -> &'static [Program] {
+    if matches!(call, RELR_READ | RELR_APPLY) { &PROGRAMS } else { &PROGRAMS[..3] }
+}
+
+/// Makes the call of a case by the functions of a module, in its way through bitmaps.
 macro_rules! call {
-    ($case:ident, $module:ident) => {{
+    ($case:ident, $module:ident $(, $bits:ty)?) => {{
         let (class, i, b) = ($case.class, &$case.input, &mut $case.bytes);
         let (o, t) = (&mut $case.offsets, &mut $case.types);
         let (s, a) = (&mut $case.symbols, &mut $case.addends);
         match $case.call {
-            RELR_READ => $module::relr_read(class, i, o),
+            RELR_READ => $module::relr_read$(::<$bits>)?(class, i, o),
             RELR_WRITE => $module::relr_write(class, o, b),
-            RELR_APPLY => $module::relr_apply(class, i, $case.base, $case.start, b),
+            RELR_APPLY => {
+                $module::relr_apply$(::<$bits>)?(class, i, $case.base, $case.start, b)
+            }
             APR1_READ => $module::apr1_read(i, o),
             APR1_WRITE => $module::apr1_write(o, b),
             APA1_READ => $module::apa1_read(i, o, a),
@@ -38,14 +53,14 @@ pub fn library(case: &mut Case) -> Result<usize, Refusal> {
 }
 
 /// The Rust program with the same checks.
-pub fn rust(case: &mut Case) -> Result<usize, Refusal> {
-    call!(case, baseline)
+pub fn rust<B: Bits>(case: &mut Case) -> Result<usize, Refusal> {
+    call!(case, baseline, B)
 }
 
 /// The C program without any check; only for a case that the reference accepts.
-pub(crate) fn c(case: &mut Case) -> Result<usize, Refusal> {
+fn c<B: Bits>(case: &mut Case) -> Result<usize, Refusal> {
     // SAFETY: `measure` gives only cases that the reference has accepted.
-    Ok(unsafe { plain::run(case) })
+    Ok(unsafe { plain::run::<B>(case) })
 }
 
 /// The slow reference, which is not measured.

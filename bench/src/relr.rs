@@ -1,5 +1,6 @@
 //! RELR: read, written and applied.
 
+use crate::bits::Bits;
 use crate::refusal::{
     Answer, BASE, MISSING, ODD, ORDER, OUTSIDE, SPACE, enough, increasing, readable, refuse,
     writable,
@@ -9,8 +10,8 @@ use reloc::Refusal;
 use std::marker::PhantomData;
 
 /// Reads the offsets of a table into a column.
-pub fn relr_read(class: u32, table: &[u8], offsets: &mut [u64]) -> Answer {
-    by_class!(class, read(table, offsets))
+pub fn relr_read<B: Bits>(class: u32, table: &[u8], offsets: &mut [u64]) -> Answer {
+    by_class!(class, read<B>(table, offsets))
 }
 
 /// Writes the least table for a list of offsets.
@@ -20,46 +21,67 @@ pub fn relr_write(class: u32, offsets: &[u64], table: &mut [u8]) -> Answer {
 
 /// Adds the base to the image's word at each offset of a table; the image's first byte is at the
 /// start.
-pub fn relr_apply(class: u32, table: &[u8], base: u64, start: u64, image: &mut [u8]) -> Answer {
-    by_class!(class, apply(table, base, start, image))
+pub fn relr_apply<B: Bits>(
+    class: u32,
+    table: &[u8],
+    base: u64,
+    start: u64,
+    image: &mut [u8],
+) -> Answer {
+    by_class!(class, apply<B>(table, base, start, image))
 }
 
 /// Reading, for a class.
-fn read<W: Word>(table: &[u8], offsets: &mut [u64]) -> Answer {
-    let found = find::<W>(table, Inside { start: 0, places: u64::MAX })?;
+fn read<W: Word, B: Bits>(table: &[u8], offsets: &mut [u64]) -> Answer {
+    let found = find::<W, B>(table, Inside { start: 0, places: u64::MAX })?;
     enough(offsets.len(), found.count as u64)?;
     let mut room = offsets.iter_mut();
-    decode::<W>(table, 0, |offset| {
-        if let Some(entry) = room.next() {
-            *entry = offset;
-        }
+    decode::<W>(table, 0, |first, set| {
+        B::ones(set).for_each(|k| {
+            if let Some(entry) = room.next() {
+                *entry = first + k * W::STEP;
+            }
+        })
     });
     Ok(found.count)
 }
 
 /// Applying, for a class.
-fn apply<W: Word>(table: &[u8], base: u64, start: u64, image: &mut [u8]) -> Answer {
+fn apply<W: Word, B: Bits>(table: &[u8], base: u64, start: u64, image: &mut [u8]) -> Answer {
     if base > W::TOP {
         return refuse(BASE, 0);
     }
-    let found = find::<W>(table, Inside::of::<W>(start, image.len()))?;
+    let found = find::<W, B>(table, Inside::of::<W>(start, image.len()))?;
     if let Some(index) = found.outside {
         return refuse(OUTSIDE, index);
     }
-    decode::<W>(table, start, |index| {
-        let at = index as usize;
-        let word = &mut image[at..at + W::BYTES];
-        W::store(W::load(word).wrapping_add(base), word);
+    let add = |word: &mut [u8]| W::store(W::load(word).wrapping_add(base), word);
+    decode::<W>(table, start, |first, set| {
+        let first = first as usize;
+        // One test for a window, not one for each bit; an address is one bit.
+        if B::ZEROS
+            && set != 1
+            && let Some(window) = W::window(image, first)
+        {
+            B::ones(set).for_each(|k| add(window[k as usize].as_mut()));
+        } else {
+            B::ones(set).for_each(|k| {
+                let at = first + k as usize * W::BYTES;
+                add(&mut image[at..at + W::BYTES]);
+            });
+        }
     });
     Ok(found.count)
 }
 
 /// The first pass over a table: looks at every word, and answers what it found.
-fn find<W: Word>(table: &[u8], inside: Inside) -> Result<Found<W>, Refusal> {
+fn find<W: Word, B: Bits>(table: &[u8], inside: Inside) -> Result<Found<W>, Refusal> {
     opened::<W>(table)?;
-    let mut found = Found { place: 0, inside, count: 0, outside: None, word: PhantomData };
+    let whole = inside.windows::<W>();
+    let mut found = Found { place: 0, inside, whole, count: 0, outside: None, word: PhantomData };
     for (index, word) in words::<W>(table).enumerate() {
-        let legal = if word % 2 == 0 { found.address(word) } else { found.bitmap(word >> 1) };
+        let legal =
+            if word % 2 == 0 { found.address::<B>(word) } else { found.bitmap::<B>(word >> 1) };
         if !legal {
             return refuse(SPACE, index * W::BYTES);
         }
@@ -80,6 +102,13 @@ impl Inside {
         Inside { start, places: words.min((u64::MAX - start).saturating_add(1)) }
     }
 
+    /// Those where a whole window starts that is inside, and inside the space, with a word after it:
+    /// *where* does not pass the largest number.
+    fn windows<W: Word>(&self) -> Self {
+        let places = self.places.min((W::LAST + 1).saturating_sub(self.start));
+        Inside { start: self.start, places: places.saturating_sub(W::WINDOW * W::STEP) }
+    }
+
     /// Whether an offset is one of them. Below the start the difference wraps to 2^64 - start or
     /// more, and there are no more places than that.
     fn holds(&self, offset: u64) -> bool {
@@ -88,10 +117,12 @@ impl Inside {
 }
 
 /// What the first pass has found: *where*, the offsets so far, and the index of the first that is
-/// not inside. Past the largest number *where* stays at it: no offset is there.
+/// not inside. Past the largest number *where* stays at it: no offset is there. By trailing zeros, a
+/// word from which on a whole window is inside is only counted.
 struct Found<W> {
     place: u64,
     inside: Inside,
+    whole: Inside,
     count: usize,
     outside: Option<usize>,
     word: PhantomData<W>,
@@ -99,7 +130,12 @@ struct Found<W> {
 
 impl<W: Word> Found<W> {
     /// Takes an address; false when it is outside the space.
-    fn address(&mut self, offset: u64) -> bool {
+    fn address<B: Bits>(&mut self, offset: u64) -> bool {
+        if B::ZEROS && self.whole.holds(offset) {
+            self.count += 1;
+            self.place = offset + W::STEP;
+            return true;
+        }
         if !self.inside.holds(offset) {
             self.outside.get_or_insert(self.count);
         }
@@ -109,10 +145,15 @@ impl<W: Word> Found<W> {
     }
 
     /// Takes the bits of a bitmap; false when one is outside the space.
-    fn bitmap(&mut self, set: u64) -> bool {
+    fn bitmap<B: Bits>(&mut self, set: u64) -> bool {
         let first = self.place;
+        if B::ZEROS && self.whole.holds(first) {
+            self.count += set.count_ones() as usize;
+            self.place = first + W::WINDOW * W::STEP;
+            return true;
+        }
         self.place = first.saturating_add(W::WINDOW * W::STEP);
-        for k in ones(set) {
+        for k in B::ones(set) {
             let offset = first.saturating_add(k * W::STEP);
             if offset > W::LAST {
                 return false;
@@ -138,17 +179,17 @@ fn opened<W: Word>(table: &[u8]) -> Result<(), Refusal> {
     }
 }
 
-/// The second pass: gives the offsets of an accepted table, in order, less a start that none is
-/// below.
-fn decode<W: Word>(table: &[u8], start: u64, mut put: impl FnMut(u64)) {
+/// The second pass over an accepted table: gives, for each word, the offset of its lowest bit, less
+/// a start that no offset is below, and its bits. An address is one bit.
+fn decode<W: Word>(table: &[u8], start: u64, mut put: impl FnMut(u64, u64)) {
     let mut place = 0u64;
     for word in words::<W>(table) {
         if word % 2 == 0 {
             let index = word - start;
-            put(index);
+            put(index, 1);
             place = index.wrapping_add(W::STEP);
         } else {
-            ones(word >> 1).for_each(|k| put(place + k * W::STEP));
+            put(place, word >> 1);
             place = place.wrapping_add(W::WINDOW * W::STEP);
         }
     }
@@ -157,11 +198,6 @@ fn decode<W: Word>(table: &[u8], start: u64, mut put: impl FnMut(u64)) {
 /// The words of a table.
 fn words<W: Word>(table: &[u8]) -> impl Iterator<Item = u64> {
     table.chunks_exact(W::BYTES).map(W::load)
-}
-
-/// The places of the one bits, lowest first, found bit by bit.
-fn ones(set: u64) -> impl Iterator<Item = u64> {
-    (0..u64::BITS as u64 - set.leading_zeros() as u64).filter(move |k| set >> k & 1 == 1)
 }
 
 /// Writing, for a class.

@@ -16,25 +16,41 @@ const BASE: u64 = 0x1234_5678;
 /// The start of the image that a table is applied to.
 pub const START: u64 = 0x1000;
 
-/// A row: its name, and its case of so many records.
+/// The sizes of a row, if nothing else is said.
+pub const SIZES: [usize; 4] = [10_000, 100_000, 1_000_000, 4_000_000];
+
+/// A row: its name, the numbers of records that it is measured with, and its case of so many.
 pub struct Row {
     pub name: String,
+    pub sizes: &'static [usize],
     pub case: Box<dyn Fn(usize) -> Case>,
 }
 
-/// What a RELR table is made of: full bitmaps, bitmaps with one bit each, or no bitmaps.
+/// What a RELR table is made of.
 #[derive(Clone, Copy)]
 enum Shape {
+    /// Full bitmaps.
     Dense,
+    /// Bitmaps with half their bits, as chance has it.
+    Half,
+    /// Bitmaps with one bit each.
     Sparse,
+    /// Runs of 20 to 60 words, and gaps of 1 to 512 words, short ones more often.
+    Linked,
+    /// No bitmaps.
     Addresses,
+    /// Runs of five words, of four and of one, by turns; after each a gap of 200.
+    Ten,
 }
 
-/// The shapes by name.
-const SHAPES: [(&str, Shape); 3] = [
-    ("dense bitmaps", Shape::Dense),
-    ("sparse bitmaps", Shape::Sparse),
-    ("addresses only", Shape::Addresses),
+/// The shapes by name, and their sizes.
+const SHAPES: [(&str, Shape, &[usize]); 6] = [
+    ("dense bitmaps", Shape::Dense, &SIZES),
+    ("half-full bitmaps", Shape::Half, &SIZES),
+    ("sparse bitmaps", Shape::Sparse, &SIZES),
+    ("like a linker's", Shape::Linked, &SIZES),
+    ("addresses only", Shape::Addresses, &SIZES),
+    ("ten offsets", Shape::Ten, &[10]),
 ];
 
 /// The longest run of an APR1 list, by name.
@@ -42,17 +58,17 @@ const RUNS: [(&str, u64); 2] = [("short runs", 4), ("long runs", 2_000)];
 
 /// All rows.
 pub fn all() -> Vec<Row> {
-    let shapes = SHAPES.iter().flat_map(|(name, shape)| [(name, *shape, 4), (name, *shape, 8)]);
+    let shapes = SHAPES.iter().flat_map(|shape| [(shape, 4), (shape, 8)]);
     let mut rows = Vec::new();
-    for (name, shape, class) in shapes.clone() {
+    for (&(name, shape, sizes), class) in shapes.clone() {
         let name = format!("RELR apply, {name}, class {class}");
-        rows.push(Row { name, case: Box::new(move |records| applied(shape, class, records)) });
+        let case = Box::new(move |records| applied(shape, class, records));
+        rows.push(Row { name, sizes, case });
     }
-    for (name, shape, class) in shapes {
+    for (&(name, shape, sizes), class) in shapes {
         let name = format!("{name}, class {class}");
-        rows.extend(both("RELR", &name, RELR_READ, move |records| {
-            relr_list(shape, class, records)
-        }));
+        let list = move |records| relr_list(shape, class, records);
+        rows.extend(both("RELR", &name, RELR_READ, list).map(|row| Row { sizes, ..row }));
     }
     for (name, longest) in RUNS {
         rows.extend(both("APR1", name, APR1_READ, move |records| apr1_list(longest, records)));
@@ -82,8 +98,8 @@ fn both(
         Case { bytes: vec![FILL; written(&list).len()], ..list }
     };
     [
-        Row { name: format!("{kind} read, {name}"), case: Box::new(reading) },
-        Row { name: format!("{kind} write, {name}"), case: Box::new(writing) },
+        Row { name: format!("{kind} read, {name}"), sizes: &SIZES, case: Box::new(reading) },
+        Row { name: format!("{kind} write, {name}"), sizes: &SIZES, case: Box::new(writing) },
     ]
 }
 
@@ -93,21 +109,19 @@ fn written(list: &Case) -> Vec<u8> {
     Case { bytes: vec![FILL; need], ..list.clone() }.run().1.bytes
 }
 
-/// The applying of a table to an image of as many words as it has offsets.
+/// The applying of a table to an image that ends with its last word. Sparse bitmaps and addresses
+/// have an image of as many words as offsets.
 fn applied(shape: Shape, class: u32, records: usize) -> Case {
-    let table = match shape {
-        Shape::Dense => written(&words_from_start(class, records)),
-        Shape::Sparse => sparse_turns(class, records),
-        Shape::Addresses => relr_bytes(class, &words_from_start(class, records).offsets),
-    };
-    Case::apply(class, &table, BASE, START, &vec![FILL; records * class as usize])
-}
-
-/// The list of an image's words, all of them.
-fn words_from_start(class: u32, records: usize) -> Case {
-    let mut list = relr_list(Shape::Dense, class, records);
+    let dense = matches!(shape, Shape::Sparse | Shape::Addresses);
+    let mut list = relr_list(if dense { Shape::Dense } else { shape }, class, records);
     list.offsets.iter_mut().for_each(|offset| *offset += START);
-    list
+    let table = match shape {
+        Shape::Sparse => sparse_turns(class, records),
+        Shape::Addresses => relr_bytes(class, &list.offsets),
+        _ => written(&list),
+    };
+    let length = list.offsets[records - 1] + class as u64 - START;
+    Case::apply(class, &table, BASE, START, &vec![FILL; length as usize])
 }
 
 /// A sparse table of one offset a word, which goes back to the start when a bitmap would pass the
@@ -128,12 +142,29 @@ fn window(class: u32) -> u64 {
 /// A RELR list of a shape.
 fn relr_list(shape: Shape, class: u32, records: usize) -> Case {
     let mut rng = Rng::new(SEED);
-    let word = |index: u64| match shape {
-        Shape::Dense => index,
-        // After the address, one location of each bitmap.
-        Shape::Sparse if index == 0 => 0,
-        Shape::Sparse => 1 + (index - 1) * window(class) + rng.below(window(class)),
-        Shape::Addresses => index * (window(class) + 1),
+    let (mut last, mut run) = (0, 20);
+    let word = |index: u64| {
+        last = match shape {
+            Shape::Dense => index,
+            Shape::Addresses => index * (window(class) + 1),
+            Shape::Ten => index + 200 * (index / 10 * 3 + index % 10 / 5 + index % 10 / 9),
+            // The first is an address.
+            _ if index == 0 => 0,
+            // One location of each bitmap.
+            Shape::Sparse => 1 + (index - 1) * window(class) + rng.below(window(class)),
+            // Each word after the last is the next with one chance in two.
+            Shape::Half => last + 1 + rng.draw().trailing_zeros() as u64,
+            Shape::Linked if run == 0 => {
+                run = 19 + rng.below(41);
+                let bits = rng.below(10);
+                last + 2 + rng.below(1 << bits)
+            }
+            Shape::Linked => {
+                run -= 1;
+                last + 1
+            }
+        };
+        last
     };
     let offsets: Vec<u64> = (0..records as u64).map(word).map(|word| word * class as u64).collect();
     Case::write(RELR_WRITE, class, &offsets, 0)

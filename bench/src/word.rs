@@ -2,6 +2,8 @@
 
 /// What a class gives its tables.
 pub trait Word {
+    /// A word's bytes.
+    type Bytes: AsMut<[u8]>;
     /// A word's size.
     const BYTES: usize;
     /// A word's width.
@@ -19,6 +21,8 @@ pub trait Word {
     fn load(bytes: &[u8]) -> u64;
     /// Puts a word, wrapped, in so many bytes.
     fn store(word: u64, bytes: &mut [u8]);
+    /// The 64 words from a place on, if there are so many: no window is longer.
+    fn window(bytes: &mut [u8], place: usize) -> Option<&mut [Self::Bytes; 64]>;
     /// A sum wrapped at the width.
     fn wrap(sum: u64) -> u64;
     /// A sum wrapped at the width and read as a signed number.
@@ -29,6 +33,8 @@ pub trait Word {
 macro_rules! word {
     ($unsigned:ty, $signed:ty) => {
         impl Word for $unsigned {
+            type Bytes = [u8; size_of::<$unsigned>()];
+
             const BYTES: usize = size_of::<$unsigned>();
 
             fn load(bytes: &[u8]) -> u64 {
@@ -37,6 +43,10 @@ macro_rules! word {
 
             fn store(word: u64, bytes: &mut [u8]) {
                 bytes.copy_from_slice(&(word as $unsigned).to_le_bytes());
+            }
+
+            fn window(bytes: &mut [u8], place: usize) -> Option<&mut [Self::Bytes; 64]> {
+                bytes.get_mut(place..)?.as_chunks_mut().0.first_chunk_mut()
             }
 
             fn wrap(sum: u64) -> u64 {
@@ -55,10 +65,10 @@ word!(u64, i64);
 
 /// A call with the word of its class, or refusal 1.
 macro_rules! by_class {
-    ($class:expr, $call:ident($($argument:expr),*)) => {
+    ($class:expr, $call:ident$(<$bits:ty>)?($($argument:expr),*)) => {
         match $class {
-            4 => $call::<u32>($($argument),*),
-            8 => $call::<u64>($($argument),*),
+            4 => $call::<u32 $(, $bits)?>($($argument),*),
+            8 => $call::<u64 $(, $bits)?>($($argument),*),
             _ => $crate::refusal::refuse($crate::refusal::CLASS, 0),
         }
     };

@@ -1,17 +1,23 @@
 //! The Rust program on the reference's corpus, and every program on the rows.
 
+use bench::bits::{BitByBit, TrailingZeros};
 use bench::measure::checked;
-use bench::programs::{reference, rust};
+use bench::programs::{Program, reference, rust};
 use bench::{limits, rows};
 use reference::corpus::{all, long};
 
-/// The Rust program answers and leaves every case as the reference does.
+/// The Rust program, in both its ways through bitmaps, answers and leaves every case as the
+/// reference does.
 #[test]
 fn rust_on_the_corpus() {
     for named in all().into_iter().chain(long::cases()) {
-        let (mut want, mut got) = (named.case.clone(), named.case.clone());
-        assert_eq!(rust(&mut got), reference(&mut want), "{}", named.name);
-        assert!(got == want, "{}: buffers differ", named.name);
+        let mut want = named.case.clone();
+        let answer = reference(&mut want);
+        for program in [rust::<BitByBit>, rust::<TrailingZeros>] as [Program; 2] {
+            let mut got = named.case.clone();
+            assert_eq!(program(&mut got), answer, "{}", named.name);
+            assert!(got == want, "{}: buffers differ", named.name);
+        }
     }
 }
 
@@ -28,7 +34,7 @@ fn all_on_the_rows() {
 /// And on tables and lists such as are measured at the limits.
 #[test]
 fn all_below_the_limits() {
-    for (row, _) in limits::rows() {
+    for row in limits::rows() {
         for size in [64, 1_000] {
             checked(&row, size);
         }
