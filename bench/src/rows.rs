@@ -156,8 +156,8 @@ fn relr_list(shape: Shape, class: u32, records: usize) -> Case {
             Shape::Half => last + 1 + rng.draw().trailing_zeros() as u64,
             Shape::Linked if run == 0 => {
                 run = 19 + rng.below(41);
-                let bits = rng.below(10);
-                last + 2 + rng.below(1 << bits)
+                let longest = if rng.once_in(32) { 512 } else { 7 };
+                last + 2 + rng.below(longest)
             }
             Shape::Linked => {
                 run -= 1;
