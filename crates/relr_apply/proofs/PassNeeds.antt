@@ -21,7 +21,7 @@ use Rattle.answer.specs.declared.Found.{Found}
 use Rattle.answer.specs.declared.Found.the-variants.{Count}
 use Rattle.answer.specs.declared.Found.the-variants as found
 use Rattle.answer.specs.Outcome.{Outcome, accepted, refused, foundOf, success, refusal}
-use Rattle.answer.specs.Outcome.Laws.{accepted-refused, Counted, found-count, not-found, answer-all, answer-none}
+use Rattle.answer.specs.Outcome.Laws.{Counted, found-count, not-found, answer-all, answer-none}
 use Rattle.word.specs.declared.Class.{Class}
 use Rattle.word.specs.declared.Class.the-variants.{Four, Eight}
 use Rattle.word.specs.Class.{bytesOf, bitsOf, windowOf}

@@ -14,8 +14,7 @@ use mir.Syntax.{w64}
 use mir.Val.{Fits}
 use borrow.Author.Needs.{needs, scaled-fits}
 use borrow.Author.Tests.{lt-ltb, le-leb}
-use Rattle.answer.specs.declared.Refusal.{Refusal}
-use Rattle.answer.specs.Outcome.Laws.{accepted-refused, after-long, sets-append, buffer-more, buffer-long, found-count, filled-self, gives-not, gives-short, gives-full}
+use Rattle.answer.specs.Outcome.Laws.{after-long, sets-append, buffer-more, buffer-long, found-count, filled-self, gives-not, gives-short, gives-full}
 use Rattle.answer.specs.Written.{Written}
 use Rattle.answer.specs.declared.Found.{Found}
 use Rattle.answer.specs.declared.Found.the-variants.{Count}
@@ -23,10 +22,7 @@ use Rattle.answer.specs.Outcome.{foundOf, filled, itself}
 use Rattle.word.specs.declared.Class.{Class}
 use Rattle.word.specs.Class.{bytesOf, windowOf}
 use Rattle.word.specs.Word.{wordAt}
-use Rattle.word.specs.Class.Laws.{bytes-least, bytes-most}
-use Rattle.relr_table.specs.Place.{Place, Nowhere}
-use Rattle.relr_table.specs.declared.place.Opened.{Opened}
-use Rattle.relr_table.specs.declared.place.Opened.the-variants.{Address, Marks, Refused}
+use Rattle.word.specs.Class.Laws.{bytes-least}
 use Rattle.relr_table.specs.Inner.{marksOf, full, between}
 use Rattle.relr_read.specs.Inner.{Markable, Fillable, Filled}
 use Rattle.relr_table.proofs.PlaceNeeds.{one-mark}

@@ -1,18 +1,17 @@
 -- The needs of skimming, stated as the code asks them.
 -- Assumes nothing.
-use mathlib.Core.Bool.{Bool, true, false, cond, _&&_}
-use mathlib.Core.List.{List, _∷_, _++_}
+use mathlib.Core.Bool.{Bool, true, false, _&&_}
+use mathlib.Core.List.{List, _++_}
 use mathlib.Core.Path.{_≡_, refl, sym, ap, subst, _∙_}
-use Prim.Native.Nat.{ℕ, zero, suc, _+_, _-_, _*_, _/_, _%_, _^_, _≤_, _<_}
-use native.Mathlib.Decide.{ℕ-discrete}
+use Prim.Native.Nat.{ℕ, suc, _+_, _-_, _*_, _/_, _%_, _^_, _≤_, _<_}
 use native.Mathlib.Nat.{mul-le-mul-right, suc-mul}
 use native.Mathlib.Omega.{arith}
 use lib.ListN.{length, length-append}
 use mir.Syntax.{w64}
 use mir.Val.{Fits}
 use borrow.Author.Needs.{needs}
-use borrow.Author.Tests.{eq-eqb, ne-eqb, lt-ltb, ltb-true, lt-leb, le-leb, leb-true}
-use lib.Dec.{leb, ltb, eqb, lit≤}
+use borrow.Author.Tests.{lt-ltb, ltb-true, lt-leb, le-leb, leb-true}
+use lib.Dec.{leb, ltb, lit≤}
 use Rattle.answer.specs.Limits.{input-most}
 use Rattle.word.specs.declared.Class.{Class}
 use Rattle.word.specs.declared.Class.the-variants.{Four, Eight}
@@ -130,10 +129,45 @@ module _ {k : Class} {low high clear : ℕ} (f : Fence k high clear) where
             (λ y z. true-between low high y (omega (arith, z .0)) (omega (arith, z .1, bytes-least k))) l (window-all k anchor bits high in-high);
       }
 
-module _ (k : Class) (low top clear : ℕ) {b : Bool} where
-  pub step-address : {x c : ℕ} → x % 2 ≡ 0 → b ≡ between low top x → b ≡ true → c ≡ bytesOf k → (p : Place) (high : ℕ) → Top k high top → Fence k high clear
+module _ (k : Class) (low clear : ℕ) {b : Bool} where
+  pub step-address : {x c : ℕ} → x % 2 ≡ 0 → b ≡ between low clear x → b ≡ true → c ≡ bytesOf k → (p : Place) (high : ℕ) → Fence k high clear
       → Steps k low high p x (One (x + c))
-  step-address {x} {c} even be was ce p high t f w s =
+  step-address {x} {c} even be was ce p high f w s =
+      let t = sym be ∙ was in
+      let (in-space, in-high) = f x (between-true low clear x t .1) in
+      let r = spaceOf k - bytesOf k in
+      clears f
+      (address-marks k x r even (omega (arith, window-some k)) (omega (arith, window-some k)) ce (inside refl (omega (arith, window-some k))) w)
+      (sym (ap length (one-mark k x))) t
+
+  pub step-bitmap : {x d n : ℕ} {p : Place} → (x % 2 ≡ 0 → ⊥) → x < spaceOf k → b ≡ between low clear p → b ≡ true → d ≡ windowOf k * bytesOf k
+      → ((c m u : ℕ) → x / 2 < 2 ^ m → n ≡ length (marked c m (x / 2) u)) → (high : ℕ) → Fence k high clear → Steps k low high p x (Many n (p + d))
+  step-bitmap {x} {d} {n} {p} odd small be was de tells high f w s =
+      let t = sym be ∙ was in
+      let (in-space, in-high) = f p (between-true low clear p t .1) in
+      let r = spaceOf k - bytesOf k in
+      let h = half-fits k x small in
+      clears f
+      (bitmap-at k p (x / 2) x (omega arith) refl {r = r} (omega (arith, window-some k)) (omega (arith, window-some k)) h de (inside refl (omega arith)) w s)
+      (tells (bytesOf k) (windowOf k) p h) t
+
+  module _ (some : (high : ℕ) × Fence k high clear) (u : ℕ) (be : b ≡ between low clear u) (was : b ≡ true) where
+    pub step-word : {c : ℕ} → c ≡ bytesOf k → Fits w64 (u + c)
+    step-word ce = let (in-space, in-high) = some .1 u (between-true low clear u (sym be ∙ was) .1) in record { fits = omega (arith, window-some k, space-most k, bytes-least k) }
+
+    pub step-stride : {d : ℕ} → d ≡ windowOf k * bytesOf k → Fits w64 (u + d)
+    step-stride de = let (in-space, in-high) = some .1 u (between-true low clear u (sym be ∙ was) .1) in record { fits = omega (arith, space-most k, bytes-least k) }
+
+pub step-stops : (k : Class) (low clear : ℕ) (p : Place) (x high : ℕ) → Fence k high clear → Steps k low high p x Stops
+step-stops k low clear p x high f = tt
+
+pub ruleset steps = (step-address, step-bitmap, step-word, step-stride, step-stops, half-fits, needs)
+
+-- ---- an address nearer to the end than a window
+module _ (k : Class) (low top clear : ℕ) {b : Bool} where
+  pub near-address : {x c : ℕ} → x % 2 ≡ 0 → b ≡ between low top x → b ≡ true → c ≡ bytesOf k → (p : Place) (high : ℕ) → Top k high top → Fence k high clear
+      → Steps k low high p x (One (x + c))
+  near-address {x} {c} even be was ce p high t f w s =
       let (l, lt) = between-true low top x (sym be ∙ was) in
       let (in-space, in-high) = t x lt in
       let one = one-mark k x in
@@ -146,31 +180,20 @@ module _ (k : Class) (low top clear : ℕ) {b : Bool} where
         each = rw one (true-between low high x l in-high, tt);
       }
 
-  pub step-word : ((high : ℕ) × Top k high top × Fence k high clear) → (x : ℕ) {c : ℕ} → b ≡ between low top x → b ≡ true → c ≡ bytesOf k → Fits w64 (x + c)
-  step-word (high, t, f) x be was ce =
+  pub near-word : ((high : ℕ) × Top k high top × Fence k high clear) → (x : ℕ) {c : ℕ} → b ≡ between low top x → b ≡ true → c ≡ bytesOf k → Fits w64 (x + c)
+  near-word (high, t, f) x be was ce =
       let (in-space, in-high) = t x (between-true low top x (sym be ∙ was) .1) in
       record { fits = omega (arith, space-most k, bytes-least k) }
 
-  pub step-bitmap : {x d n : ℕ} {p : Place} → (x % 2 ≡ 0 → ⊥) → x < spaceOf k → b ≡ between low clear p → b ≡ true → d ≡ windowOf k * bytesOf k
-      → ((c m u : ℕ) → x / 2 < 2 ^ m → n ≡ length (marked c m (x / 2) u)) → (high : ℕ) → Top k high top → Fence k high clear → Steps k low high p x (Many n (p + d))
-  step-bitmap {x} {d} {n} {p} odd small be was de tells high t f w s =
-      let q = sym be ∙ was in
-      let (in-space, in-high) = f p (between-true low clear p q .1) in
-      let r = spaceOf k - bytesOf k in
-      let h = half-fits k x small in
-      clears f
-      (bitmap-at k p (x / 2) x (omega arith) refl {r = r} (omega (arith, window-some k)) (omega (arith, window-some k)) h de (inside refl (omega arith)) w s)
-      (tells (bytesOf k) (windowOf k) p h) q
+-- any other word
+module _ (k : Class) (low top clear : ℕ) where
+  pub near-other : (p x : ℕ) (r : Stepped) → ((high : ℕ) → Fence k high clear → Steps k low high p x r) → (high : ℕ) → Top k high top → Fence k high clear → Steps k low high p x r
+  near-other p x r o high t f = o high f
 
-  pub step-stride : ((high : ℕ) × Top k high top × Fence k high clear) → (p : ℕ) {d : ℕ} → b ≡ between low clear p → b ≡ true → d ≡ windowOf k * bytesOf k → Fits w64 (p + d)
-  step-stride (high, t, f) p be was de =
-      let (in-space, in-high) = f p (between-true low clear p (sym be ∙ was) .1) in
-      record { fits = omega (arith, space-most k, bytes-least k) }
+  pub near-fence : ((high : ℕ) × Top k high top × Fence k high clear) → (high : ℕ) × Fence k high clear
+  near-fence (high, t, f) = (high, f)
 
-pub step-stops : (k : Class) (low top clear : ℕ) (p : Place) (x high : ℕ) → Top k high top → Fence k high clear → Steps k low high p x Stops
-step-stops k low top clear p x high t f = tt
-
-pub ruleset steps = (step-address, step-bitmap, step-word, step-stride, step-stops, half-fits, needs)
+pub ruleset nears = (near-address, near-word, near-other, near-fence, needs)
 
 -- the offsets passed are at most 64 for each word
 module _ {k : Class} {s : List ℕ} {low high at count first : ℕ} {p : Place} (h : Scanned k s low high at p count first) where

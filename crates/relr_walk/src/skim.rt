@@ -59,13 +59,13 @@ pub enum Stepped {
     Stops,
 }
 
-// Passes the word x at a place if it lies between the two ends: an address, or a bitmap with all that it can mark.
-fn step(k: Class, low: u64, top: u64, clear: u64, place: u64, x: u64) -> Stepped
-    requires { ⌜ (x < spaceOf k) × ((high : ℕ) × Top k high top × Fence k high clear) ⌝ }
-    ensures { λ r. ⌜ ((high : ℕ) → Top k high top → Fence k high clear → Steps k low high place x r) ⌝ }
+// Passes the word x at a place if a bitmap anchored where it points would lie between the two ends, so that all it marks does.
+fn step(k: Class, low: u64, clear: u64, place: u64, x: u64) -> Stepped
+    requires { ⌜ (x < spaceOf k) × ((high : ℕ) × Fence k high clear) ⌝ }
+    ensures { λ r. ⌜ ((high : ℕ) → Fence k high clear → Steps k low high place x r) ⌝ }
 {
     if x % 2 == 0 {
-        if within(low, top, x) {
+        if within(low, clear, x) {
             return Stepped::One(x + k.bytes() as u64);
         }
         return Stepped::Stops;
@@ -74,6 +74,19 @@ fn step(k: Class, low: u64, top: u64, clear: u64, place: u64, x: u64) -> Stepped
         return Stepped::Many(marks(x / 2), place + k.stride());
     }
     Stepped::Stops
+}
+
+// The same, but that an address, which marks one location, may lie nearer to the high end than a window.
+fn step_near(k: Class, low: u64, top: u64, clear: u64, place: u64, x: u64) -> Stepped
+    requires { ⌜ (x < spaceOf k) × ((high : ℕ) × Top k high top × Fence k high clear) ⌝ }
+    ensures { λ r. ⌜ ((high : ℕ) → Top k high top → Fence k high clear → Steps k low high place x r) ⌝ }
+{
+    if x % 2 == 0 {
+        if within(low, top, x) {
+            return Stepped::One(x + k.bytes() as u64);
+        }
+    }
+    step(k, low, clear, place, x)
 }
 
 // How far a walk has come: the next word's byte and its *where*, and how many offsets were passed.
@@ -95,7 +108,7 @@ pub fn pass(k: Class, s: &[u8], low: u64, high: u64, from: Passed) -> Passed
     let mut place = from.place;
     let mut count = from.count;
     while at < s.len() {
-        let stepped = step(k, low, top, clear, place, word::load(k, s, at));
+        let stepped = step_near(k, low, top, clear, place, word::load(k, s, at));
         match stepped {
             Stepped::Stops => {
                 return Passed { at, place, count };

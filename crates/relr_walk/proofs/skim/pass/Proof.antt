@@ -6,7 +6,7 @@ use Rattle.relr_walk.proofs.skim.pass.Tie as tie
 use Rattle.relr_walk.proofs.skim.pass.Reads as reads
 use Rattle.relr_walk.proofs.skim.pass.Lts as lts
 use Rattle.relr_walk.proofs.skim.fence.Reads as fence-reads
-use Rattle.relr_walk.proofs.skim.step.Reads as step-reads
+use Rattle.relr_walk.proofs.skim.step_near.Reads as step-near-reads
 use Rattle.relr_walk.proofs.skim.top.Reads as top-reads
 use Rattle.word.proofs.Class.bytes.Reads as bytes-reads
 use Rattle.word.proofs.load.Reads as load-reads
@@ -35,8 +35,8 @@ loop-holds c = search skims
 load-requires : tie.Need-load-requires Inv-loop μ-loop
 load-requires c κs = search skims
 
-step-requires : tie.Need-step-requires Inv-loop μ-loop
-step-requires c κs = search skims
+step-near-requires : tie.Need-step-near-requires Inv-loop μ-loop
+step-near-requires c κs = search skims
 
 enum-told : tie.Need-enum-told Inv-loop μ-loop
 enum-told c = search skims
@@ -89,7 +89,7 @@ pass-spec =
     fence-requires
     loop-holds
     load-requires
-    step-requires
+    step-near-requires
     enum-told
     returns
     enum-known-stepped

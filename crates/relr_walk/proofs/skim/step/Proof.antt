@@ -1,4 +1,4 @@
-use Rattle.relr_walk.proofs.SkimNeeds.{step-word, step-stride, steps}
+use Rattle.relr_walk.proofs.SkimNeeds.{steps}
 use Rattle.relr_walk.proofs.skim.step.Statement.{statement}
 use Rattle.relr_walk.proofs.skim.step.Tie as tie
 use Rattle.relr_walk.proofs.skim.step.Reads as reads
@@ -14,11 +14,11 @@ within-requires c κs = search steps
 bytes-requires : tie.Need-bytes-requires
 bytes-requires c κs = search steps
 
-cast-t11 : tie.Need-cast-t11
-cast-t11 c = search steps
+cast-t10 : tie.Need-cast-t10
+cast-t10 c = search steps
 
-add-t12 : tie.Need-add-t12
-add-t12 c = step-word (c .before .before .before .before .args .k) (c .before .before .before .before .args .low) (c .before .before .before .before .args .top) (c .before .before .before .before .args .clear) (c .before .before .before .before .pre .1) (c .before .before .before .before .args .x) (c .before .before .within .ensures) (c .before .if2 .taken) (c .bytes .ensures)
+add-t11 : tie.Need-add-t11
+add-t11 c = search steps
 
 returns : tie.Need-returns
 returns c = search steps
@@ -35,8 +35,8 @@ marks-requires c κs = search steps
 stride-requires : tie.Need-stride-requires
 stride-requires c κs = search steps
 
-add-t17 : tie.Need-add-t17
-add-t17 c = step-stride (c .before .before .before .before .before .args .k) (c .before .before .before .before .before .args .low) (c .before .before .before .before .before .args .top) (c .before .before .before .before .before .args .clear) (c .before .before .before .before .before .pre .1) (c .before .before .before .before .before .args .place) (c .before .before .before .within2 .ensures) (c .before .before .if3 .taken) (c .stride .ensures)
+add-t16 : tie.Need-add-t16
+add-t16 c = search steps
 
 returns-3 : tie.Need-returns-3
 returns-3 c = search steps
@@ -50,13 +50,13 @@ step-spec =
     (tie.spec
     within-requires
     bytes-requires
-    cast-t11
-    add-t12
+    cast-t10
+    add-t11
     returns
     returns-2
     within-requires-2
     marks-requires
     stride-requires
-    add-t17
+    add-t16
     returns-3
     returns-4)
