@@ -55,15 +55,15 @@ fn patch_bitmap(k: Class, image: &mut [u8], base: u64, start: u64, anchor: u64, 
     requires { ⌜ Patchable k start (now image) anchor set ⌝ }
     ensures { λ _. ⌜ now (image .exit) ≡ patched (bytesOf k) base (indexes start (marksOf k set anchor)) (now (image .entry)) ⌝ }
 {
-    if set == place::filled(k) {
+    if set == place::full_bits(k) {
         patch_run(k, image, base, start, anchor);
     } else {
         patch_marks(k, image, base, start, anchor, set);
     }
 }
 
-// The second pass, over a table that the first accepted, whose words all lie inside the image: where the next bitmap's first location is
-// wraps, as no offset is there.
+// The second pass, over a table that the first accepted, whose words all lie inside the image. *Where* wraps: beyond the space no bitmap has a
+// bit set.
 fn patch(k: Class, s: &[u8], base: u64, start: u64, image: &mut [u8])
     requires { ⌜ Targeted k (now s) start (now image) ⌝ }
     ensures { λ _. ⌜ Patched k (now (s .entry)) base start (now (image .entry)) (now (image .exit)) ⌝ }

@@ -48,13 +48,13 @@ fn fill_bitmap(k: Class, column: &mut [u64], at: usize, anchor: u64, set: u64) -
     requires { ⌜ Markable k (now column) at anchor set ⌝ }
     ensures { λ r. ⌜ Written (now (column .entry)) (now (column .exit)) at r (marksOf k set anchor) ⌝ }
 {
-    if set == place::filled(k) {
+    if set == place::full_bits(k) {
         return fill_run(k, column, at, anchor);
     }
     fill_marks(k, column, at, anchor, set)
 }
 
-// The second pass, over a table that the first accepted: where the next bitmap's first location is wraps, as no offset is there.
+// The second pass, over a table that the first accepted. *Where* wraps: beyond the space no bitmap has a bit set.
 fn fill(k: Class, s: &[u8], column: &mut [u64])
     requires { ⌜ Fillable k (now s) (now column) ⌝ }
     ensures { λ _. ⌜ Filled k (now (s .entry)) (now (column .entry)) (now (column .exit)) ⌝ }

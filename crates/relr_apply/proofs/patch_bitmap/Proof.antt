@@ -5,10 +5,10 @@ use Rattle.relr_apply.proofs.patch_bitmap.Reads as reads
 use Rattle.relr_apply.proofs.patch_bitmap.Lts as lts
 use Rattle.relr_apply.proofs.patch_marks.Reads as patch-marks-reads
 use Rattle.relr_apply.proofs.patch_run.Reads as patch-run-reads
-use Rattle.relr_table.proofs.place.filled.Reads as filled-reads
+use Rattle.relr_table.proofs.place.full_bits.Reads as full-bits-reads
 
-filled-requires : tie.Need-filled-requires
-filled-requires c κs = search bitmaps
+full-bits-requires : tie.Need-full-bits-requires
+full-bits-requires c κs = search bitmaps
 
 patch-run-requires : tie.Need-patch-run-requires
 patch-run-requires c κs = search bitmaps
@@ -32,7 +32,7 @@ pub patch-bitmap-spec : {M : Type 1} → statement M
 patch-bitmap-spec =
     tie.close
     (tie.spec
-    filled-requires
+    full-bits-requires
     patch-run-requires
     patch-marks-requires
     same-length

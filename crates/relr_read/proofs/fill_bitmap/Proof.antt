@@ -5,10 +5,10 @@ use Rattle.relr_read.proofs.fill_bitmap.Reads as reads
 use Rattle.relr_read.proofs.fill_bitmap.Lts as lts
 use Rattle.relr_read.proofs.fill_marks.Reads as fill-marks-reads
 use Rattle.relr_read.proofs.fill_run.Reads as fill-run-reads
-use Rattle.relr_table.proofs.place.filled.Reads as filled-reads
+use Rattle.relr_table.proofs.place.full_bits.Reads as full-bits-reads
 
-filled-requires : tie.Need-filled-requires
-filled-requires c κs = search bitmaps
+full-bits-requires : tie.Need-full-bits-requires
+full-bits-requires c κs = search bitmaps
 
 fill-run-requires : tie.Need-fill-run-requires
 fill-run-requires c κs = search bitmaps
@@ -32,7 +32,7 @@ pub fill-bitmap-spec : {M : Type 1} → statement M
 fill-bitmap-spec =
     tie.close
     (tie.spec
-    filled-requires
+    full-bits-requires
     fill-run-requires
     same-length
     returns
