@@ -23,12 +23,12 @@ use Rattle.word.specs.declared.Class.{Class}
 use Rattle.word.specs.Class.{bytesOf, windowOf}
 use Rattle.word.specs.Word.{wordAt}
 use Rattle.word.specs.Class.Laws.{bytes-least}
-use Rattle.relr_table.specs.Inner.{marksOf, full, between}
+use Rattle.relr_table.specs.Inner.{marksOf, between}
 use Rattle.relr_read.specs.Inner.{Markable, Fillable, Filled}
 use Rattle.relr_table.proofs.PlaceNeeds.{one-mark}
 use Rattle.relr_table.proofs.Passed.{among-long, step-fits, step-less, space-most}
 use Rattle.relr_table.proofs.Following.{Following, Followed, following-begin, following-load, following-end, follow-address, follow-bitmap}
-use Rattle.relr_table.proofs.SetBits.{Next, Left, left-begin, left-end, left-next, left-more, left-fits, next-zeros, next-full, full-some, full-none, far-small, run-bit, run-less, zeros-fit, zeros-far, zeros-less}
+use Rattle.relr_table.proofs.SetBits.{Next, Left, left-begin, left-end, left-next, left-more, left-fits, next-zeros, zeros-fit, zeros-far, zeros-less}
 use Rattle.relr_table.specs.Table.{spaceOf, decode, contained}
 use Rattle.relr_table.proofs.Decoding.{decode-good, contained-space}
 use Rattle.relr_table.proofs.Leading.{contained-every}
@@ -61,84 +61,25 @@ module _ {k : Class} {old : List ℕ} {at anchor set : ℕ} (m : Markable k old 
       pub filling-next : length old < 2 ^ 64 → Fits w64 (i + 1)
       filling-next q = record { fits = omega (arith, filling-in, filling-long) }
 
-    module _ {t rest c : ℕ} (n : Next k anchor bits t rest) (ce : c ≡ bytesOf k) where
-      next-fits : Fits w64 (anchor + t * c)
-      next-fits = rw ce (left-fits (g .left) n (m .fits))
-
-      next-set : Filling k old at anchor set (stored column i (anchor + t * c)) rest (i + 1)
-      next-set =
-          rw ce
-          (record {
-            p = g .p ++ (anchor + t * bytesOf k) ∷ [];
-            left = left-next (g .left) n;
-            list = rw (g .list, g .next) (sets-append old at (g .p) ((anchor + t * bytesOf k) ∷ []));
-            next = omega (arith, g .next, length-append (g .p) ((anchor + t * bytesOf k) ∷ []));
-          })
-
-    -- by trailing zeros
     module _ {c : ℕ} (nz : bits ≡ 0 → ⊥) (ce : c ≡ bytesOf k) where
       pub zeros-fits : Fits w64 (anchor + trailingZeros 64 bits * c)
-      zeros-fits = next-fits (zeros nz) ce
+      zeros-fits = rw ce (left-fits (g .left) (zeros nz) (m .fits))
 
       pub zeros-set : Filling k old at anchor set (stored column i (anchor + trailingZeros 64 bits * c)) (bitAnd bits (bits - 1)) (i + 1)
-      zeros-set = next-set (zeros nz) ce
+      zeros-set =
+          let x = anchor + trailingZeros 64 bits * bytesOf k in
+          rw ce
+          (record {
+            p = g .p ++ x ∷ [];
+            left = left-next (g .left) (zeros nz);
+            list = rw (g .list, g .next) (sets-append old at (g .p) (x ∷ []));
+            next = omega (arith, g .next, length-append (g .p) (x ∷ []));
+          })
 
     pub filling-end : bits ≡ 0 → Written old column at i (marksOf k set anchor)
     filling-end z = let e = left-end (g .left) z in record { list = rw e (g .list); place = rw e (g .next) }
 
 pub ruleset markings = (filling-begin, filling-long, filling-in, filling-scaled, filling-next, zeros-fits, zeros-set, filling-end, zeros-fit, zeros-far, zeros-less, needs)
-
--- where all bits are set
-pub record Running (k : Class) (old : List ℕ) (at anchor n : ℕ) (column : List ℕ) (i j : ℕ) : Type 0 where
-  pub window : n ≡ windowOf k
-  pub within : j ≤ n
-  pub filling : Filling k old at anchor (full k) column (2 ^ windowOf k - 2 ^ j) i
-
-module _ {k : Class} {old : List ℕ} {at anchor n : ℕ} (m : Markable k old at anchor (full k)) where
-  pub running-begin : n ≡ windowOf k → Running k old at anchor n old at 0
-  running-begin ne = record { window = ne; within = omega arith; filling = filling-begin m }
-
-  module _ {column : List ℕ} {i j : ℕ} (g : Running k old at anchor n column i j) where
-    pub running-long : length column ≡ length old
-    running-long = filling-long m (g .filling)
-
-    pub running-end : n ≤ j → Written old column at i (marksOf k (full k) anchor)
-    running-end l = filling-end m (g .filling) (full-none k j (omega (arith, g .within, g .window)))
-
-    module _ (l : j < n) where
-      less : j < windowOf k
-      less = omega (arith, g .window)
-
-      pub running-in : i < length column
-      running-in = filling-in m (g .filling) (full-some k j less)
-
-      pub running-scaled : length old * 8 < 2 ^ 63 → Fits w64 (i * 8)
-      running-scaled = filling-scaled m (g .filling) (full-some k j less)
-
-      pub running-next : length old < 2 ^ 64 → Fits w64 (i + 1)
-      running-next = filling-next m (g .filling) (full-some k j less)
-
-      module _ {c : ℕ} (ce : c ≡ bytesOf k) where
-        pub running-far : Fits w64 (j * c)
-        running-far = far-small k j less ce
-
-        pub running-fits : Fits w64 (anchor + j * c)
-        running-fits = next-fits m (g .filling) (next-full k anchor j less) ce
-
-        pub running-set : Running k old at anchor n (stored column i (anchor + j * c)) (i + 1) (j + 1)
-        running-set = record { window = g .window; within = omega arith; filling = next-set m (g .filling) (next-full k anchor j less) ce }
-
-pub ruleset runnings = (running-begin, running-long, running-end, running-in, running-scaled, running-next, running-far, running-fits, running-set, run-bit, run-less, needs)
-
--- which it is
-module _ (k : Class) {set r : ℕ} (e : set ≡ r) (g : r ≡ full k) where
-  pub bitmap-run : {column : List ℕ} {at anchor : ℕ} → Markable k column at anchor set → Markable k column at anchor (full k)
-  bitmap-run {column} {at} {anchor} = subst (λ (b : ℕ). Markable k column at anchor b) (e ∙ g)
-
-  pub bitmap-ran : {old new : List ℕ} {at i : ℕ} (anchor : ℕ) → Written old new at i (marksOf k (full k) anchor) → Written old new at i (marksOf k set anchor)
-  bitmap-ran {old} {new} {at} {i} anchor = subst (λ (b : ℕ). Written old new at i (marksOf k b anchor)) (sym (e ∙ g))
-
-pub ruleset bitmaps = (bitmap-run, bitmap-ran, needs)
 
 -- ---- a table's words
 pub record Reading (k : Class) (s old : List ℕ) (at p : ℕ) (column : List ℕ) (i : ℕ) : Type 0 where

@@ -4,7 +4,7 @@ ghost use mathlib.Core.Path.{_≡_};
 ghost use Rattle.answer.specs.Outcome.{Gives, foundOf};
 ghost use Rattle.answer.specs.Written.{Written};
 ghost use Rattle.relr_table.specs.Table.{decode};
-ghost use Rattle.relr_table.specs.Inner.{flagged, marksOf, full};
+ghost use Rattle.relr_table.specs.Inner.{flagged, marksOf};
 ghost use Rattle.relr_read.specs.Inner.{Markable, Fillable, Filled};
 use answer::Answer;
 use answer::Found;
@@ -27,33 +27,6 @@ fn fill_marks(k: Class, column: &mut [u64], at: usize, anchor: u64, set: u64) ->
     i
 }
 
-// The same where all bits are set. (The compiler makes the loop wide.)
-fn fill_run(k: Class, column: &mut [u64], at: usize, anchor: u64) -> usize
-    requires { ⌜ Markable k (now column) at anchor (full k) ⌝ }
-    ensures { λ r. ⌜ Written (now (column .entry)) (now (column .exit)) at r (marksOf k (full k) anchor) ⌝ }
-{
-    let n = k.window() as u64;
-    let mut i = at;
-    let mut j: u64 = 0;
-    while j < n {
-        column[i] = anchor + j * (k.bytes() as u64);
-        i += 1;
-        j += 1;
-    }
-    i
-}
-
-// Either.
-fn fill_bitmap(k: Class, column: &mut [u64], at: usize, anchor: u64, set: u64) -> usize
-    requires { ⌜ Markable k (now column) at anchor set ⌝ }
-    ensures { λ r. ⌜ Written (now (column .entry)) (now (column .exit)) at r (marksOf k set anchor) ⌝ }
-{
-    if set == place::full_bits(k) {
-        return fill_run(k, column, at, anchor);
-    }
-    fill_marks(k, column, at, anchor, set)
-}
-
 // The second pass, over a table that the first accepted. *Where* wraps: beyond the space no bitmap has a bit set.
 fn fill(k: Class, s: &[u8], column: &mut [u64])
     requires { ⌜ Fillable k (now s) (now column) ⌝ }
@@ -72,7 +45,7 @@ fn fill(k: Class, s: &[u8], column: &mut [u64])
             i += 1;
             place = std::num::wrapping_add_u64(x, c as u64);
         } else {
-            i = fill_bitmap(k, &mut *column, i, place, x / 2);
+            i = fill_marks(k, &mut *column, i, place, x / 2);
             place = std::num::wrapping_add_u64(place, stride);
         }
     }

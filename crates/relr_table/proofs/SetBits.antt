@@ -10,7 +10,7 @@ use lib.Bits.{bitAnd, and-block, and-shifted, and-self, and-le-r}
 use lib.Count.{ones, ones-le, ones-step, trailingZeros, trailing-le}
 use lib.Dec.{eqb}
 use lib.ListN.{length, length-append}
-use lib.Pow.{pow-pos, pow-add, pow-lt}
+use lib.Pow.{pow-pos, pow-add}
 use mir.Syntax.{w64}
 use mir.Val.{Fits}
 use Rattle.word.specs.declared.Class.{Class}
@@ -130,9 +130,6 @@ next-full k anchor j l =
   where
     the-suc : {x : ℕ} → 0 < x → x ≡ (x - 1) + 1
     the-suc h = omega arith
-
-pub full-some : (k : Class) (j : ℕ) → j < windowOf k → 2 ^ windowOf k - 2 ^ j ≡ 0 → ⊥
-full-some k j l z = omega (arith, pow-lt l)
 
 pub full-none : (k : Class) (j : ℕ) → j ≡ windowOf k → 2 ^ windowOf k - 2 ^ j ≡ 0
 full-none k j e = rw e (omega arith)
