@@ -4,8 +4,8 @@ ghost use mathlib.Core.Path.{_≡_};
 ghost use Rattle.answer.specs.Outcome.{Gives, foundOf};
 ghost use Rattle.answer.specs.Written.{Written};
 ghost use Rattle.relr_table.specs.Table.{decode};
-ghost use Rattle.relr_table.specs.Inner.{flagged, marksOf};
-ghost use Rattle.relr_read.specs.Inner.{Markable, Fillable, Filled};
+ghost use Rattle.relr_table.specs.Inner.{flagged, marksOf, full};
+ghost use Rattle.relr_read.specs.Inner.{Markable, Bounded, Ample, Laid, Fillable, Filled};
 use answer::Answer;
 use answer::Found;
 use relr_table::place;
@@ -27,9 +27,60 @@ fn fill_marks(k: Class, column: &mut [u64], at: usize, anchor: u64, set: u64) ->
     i
 }
 
-// The second pass, over a table that the first accepted. *Where* wraps: beyond the space no bitmap has a bit set.
-fn fill(k: Class, s: &[u8], column: &mut [u64])
-    requires { ⌜ Fillable k (now s) (now column) ⌝ }
+// The same where all bits are set.
+fn fill_run(k: Class, column: &mut [u64], at: usize, anchor: u64) -> usize
+    requires { ⌜ Markable k (now column) at anchor (full k) ⌝ }
+    ensures { λ r. ⌜ Written (now (column .entry)) (now (column .exit)) at r (marksOf k (full k) anchor) ⌝ }
+{
+    let n = k.window() as u64;
+    let mut x = anchor;
+    let mut i = at;
+    let mut j: u64 = 0;
+    while j < n {
+        column[i] = x;
+        x = std::num::wrapping_add_u64(x, place::step(k, at));
+        i += 1;
+        j += 1;
+    }
+    i
+}
+
+// The same where a window more than there is to put fits: each location is put at the index, which moves on where its bit is set, so that no
+// branch hangs on a bit.
+fn fill_window(k: Class, column: &mut [u64], count: usize, at: usize, anchor: u64, set: u64) -> usize
+    requires { ⌜ Ample k count (now column) at anchor set ⌝ }
+    ensures { λ r. ⌜ Laid count (now (column .entry)) (now (column .exit)) at r (marksOf k set anchor) ⌝ }
+{
+    let n = k.window() as u64;
+    let mut i = at;
+    let mut j: u64 = 0;
+    while j < n {
+        column[i] = std::num::wrapping_add_u64(anchor, j * (k.bytes() as u64));
+        i += ((set >> j) % 2) as usize;
+        j += 1;
+    }
+    i
+}
+
+// Whichever is fastest. Of a column that is filled to an index in all, what lies between may be anything.
+fn fill_bitmap(k: Class, column: &mut [u64], count: usize, at: usize, anchor: u64, set: u64) -> usize
+    requires { ⌜ Bounded k count (now column) at anchor set ⌝ }
+    ensures { λ r. ⌜ Laid count (now (column .entry)) (now (column .exit)) at r (marksOf k set anchor) ⌝ }
+{
+    if set == place::full_bits(k) {
+        return fill_run(k, column, at, anchor);
+    }
+    if place::crowded(k, set) {
+        if at + (k.window() as usize) < count {
+            return fill_window(k, column, count, at, anchor, set);
+        }
+    }
+    fill_marks(k, column, at, anchor, set)
+}
+
+// The second pass, over a table of so many offsets that the first accepted. *Where* wraps: beyond the space no bitmap has a bit set.
+fn fill(k: Class, s: &[u8], count: usize, column: &mut [u64])
+    requires { ⌜ Fillable k (now s) count (now column) ⌝ }
     ensures { λ _. ⌜ Filled k (now (s .entry)) (now (column .entry)) (now (column .exit)) ⌝ }
 {
     let c = k.bytes() as usize;
@@ -45,27 +96,27 @@ fn fill(k: Class, s: &[u8], column: &mut [u64])
             i += 1;
             place = std::num::wrapping_add_u64(x, c as u64);
         } else {
-            i = fill_marks(k, &mut *column, i, place, x / 2);
+            i = fill_bitmap(k, &mut *column, count, i, place, x / 2);
             place = std::num::wrapping_add_u64(place, stride);
         }
     }
 }
 
 // The same by a flag for the class and for each class, so that the compiler makes a loop for each.
-fn fill_by(wide: bool, s: &[u8], column: &mut [u64])
-    requires { ⌜ Fillable (flagged wide) (now s) (now column) ⌝ }
+fn fill_by(wide: bool, s: &[u8], count: usize, column: &mut [u64])
+    requires { ⌜ Fillable (flagged wide) (now s) count (now column) ⌝ }
     ensures { λ _. ⌜ Filled (flagged wide) (now (s .entry)) (now (column .entry)) (now (column .exit)) ⌝ }
 {
-    fill(place::chosen(wide), s, column);
+    fill(place::chosen(wide), s, count, column);
 }
 
-fn fill_class(k: Class, s: &[u8], column: &mut [u64])
-    requires { ⌜ Fillable k (now s) (now column) ⌝ }
+fn fill_class(k: Class, s: &[u8], count: usize, column: &mut [u64])
+    requires { ⌜ Fillable k (now s) count (now column) ⌝ }
     ensures { λ _. ⌜ Filled k (now (s .entry)) (now (column .entry)) (now (column .exit)) ⌝ }
 {
     match k {
-        Class::Four => fill_by(false, s, column),
-        Class::Eight => fill_by(true, s, column),
+        Class::Four => fill_by(false, s, count, column),
+        Class::Eight => fill_by(true, s, count, column),
     }
 }
 
@@ -87,7 +138,7 @@ pub fn read_class(k: Class, table: &[u8], offsets: &mut [u64]) -> Answer
             if (offsets.len() as u64) < n {
                 return answer::short_of(n);
             }
-            fill_class(k, table, offsets);
+            fill_class(k, table, n as usize, offsets);
             answer::accept(n)
         }
     }

@@ -10,7 +10,7 @@ use lib.Bits.{bitAnd, and-block, and-shifted, and-self, and-le-r}
 use lib.Count.{ones, ones-le, ones-step, trailingZeros, trailing-le}
 use lib.Dec.{eqb}
 use lib.ListN.{length, length-append}
-use lib.Pow.{pow-pos, pow-add}
+use lib.Pow.{pow-pos, pow-add, shr-shr}
 use mir.Syntax.{w64}
 use mir.Val.{Fits}
 use Rattle.word.specs.declared.Class.{Class}
@@ -19,7 +19,7 @@ use Rattle.word.specs.Class.Laws.{bytes-least, bytes-most}
 use Rattle.relr_table.specs.Words.{marked, fit}
 use Rattle.relr_table.specs.Table.{spaceOf}
 use Rattle.relr_table.specs.Inner.{marksOf}
-use Rattle.relr_table.proofs.Marked.{marked-zero}
+use Rattle.relr_table.proofs.Marked.{marked-none, marked-zero}
 use Rattle.relr_table.proofs.Steps.{marked-set, marked-clear}
 use Rattle.relr_table.proofs.Passed.{fit-at, space-most}
 
@@ -162,6 +162,60 @@ module _ {k : Class} {anchor set bits t rest : ℕ} {p : List ℕ} (l : Left k a
 
     pub left-fits : Fits w64 (anchor + t * bytesOf k)
     left-fits = record { fits = omega (arith, left-in, space-most k, bytes-least k) }
+
+-- ---- a bitmap location by location: those passed of the first j, and the bits from there on
+pub record Through (k : Class) (anchor set j : ℕ) (p : List ℕ) : Type 0 where
+  pub within : j ≤ windowOf k
+  pub few : length p ≤ j
+  pub marks : marksOf k set anchor ≡ p ++ marked (bytesOf k) (windowOf k - j) (set / 2 ^ j) (anchor + j * bytesOf k)
+
+pub through-begin : (k : Class) (anchor set : ℕ) → Through k anchor set 0 []
+through-begin k anchor set =
+    let a : anchor + 0 * bytesOf k ≡ anchor = omega arith in
+    let b : set / 2 ^ 0 ≡ set = omega arith in
+    let e : windowOf k - 0 ≡ windowOf k = omega arith in
+    record { within = omega arith; few = omega arith; marks = rw (a, b, e) }
+
+module _ {k : Class} {anchor set j : ℕ} {p : List ℕ} (t : Through k anchor set j p) where
+  pub through-end : windowOf k ≤ j → marksOf k set anchor ≡ p
+  through-end h =
+      let e : windowOf k - j ≡ 0 = omega arith in
+      t .marks ∙ rw (e, marked-none (bytesOf k) (set / 2 ^ j) (anchor + j * bytesOf k)) (append-nil p)
+
+  module _ (l : j < windowOf k) where
+    one-more : windowOf k - j ≡ suc (windowOf k - (j + 1))
+    one-more = omega arith
+
+    half : set / 2 ^ j / 2 ≡ set / 2 ^ (j + 1)
+    half = shr-shr set j 1
+
+    on : anchor + j * bytesOf k + bytesOf k ≡ anchor + (j + 1) * bytesOf k
+    on = omega arith
+
+    pub through-clear : set / 2 ^ j % 2 ≡ 0 → Through k anchor set (j + 1) p
+    through-clear e =
+        record {
+          within = omega arith;
+          few = omega (arith, t .few);
+          marks = t .marks ∙ rw (one-more, marked-clear (bytesOf k) (windowOf k - (j + 1)) (set / 2 ^ j) (anchor + j * bytesOf k) e, half, on);
+        }
+
+    module _ (e : set / 2 ^ j % 2 ≡ 1) where
+      through-head : marksOf k set anchor ≡ p ++ (anchor + j * bytesOf k) ∷ marked (bytesOf k) (windowOf k - (j + 1)) (set / 2 ^ (j + 1)) (anchor + (j + 1) * bytesOf k)
+      through-head = t .marks ∙ rw (one-more, marked-set (bytesOf k) (windowOf k - (j + 1)) (set / 2 ^ j) (anchor + j * bytesOf k) e, half, on)
+
+      pub through-set : Through k anchor set (j + 1) (p ++ (anchor + j * bytesOf k) ∷ [])
+      through-set =
+          record {
+            within = omega arith;
+            few = omega (arith, t .few, length-append p ((anchor + j * bytesOf k) ∷ []));
+            marks = through-head ∙ sym (append-assoc p ((anchor + j * bytesOf k) ∷ []) _);
+          }
+
+      pub through-fits : fit (bytesOf k) (spaceOf k) (marksOf k set anchor) ≡ true → anchor + j * bytesOf k < 2 ^ 64
+      through-fits f =
+          let h = fit-at (bytesOf k) (spaceOf k) _ p _ (sym (ap (fit (bytesOf k) (spaceOf k)) through-head) ∙ f) in
+          omega (arith, h, space-most k, bytes-least k)
 
 -- ---- as the loops ask
 -- the distance stays small

@@ -232,13 +232,3 @@ module _ (k : Class) (s : List ℕ) (low high : ℕ) where
           find-words (scan-end b p whole (survey-all (omega (arith, scan-small b p whole))) l)
 
 pub ruleset finding = (find-long, find-part, find-begin, find-words, find-rest, find-all, needs)
-
--- ---- one class by two names
-module _ {k j : Class} (e : k ≡ j) (s : List ℕ) (low high : ℕ) {f : Found} where
-  pub found-to : f ≡ foundOf (contained (between low high) (decode k s)) → f ≡ foundOf (contained (between low high) (decode j s))
-  found-to = subst (λ (i : Class). f ≡ foundOf (contained (between low high) (decode i s))) e
-
-  pub found-from : f ≡ foundOf (contained (between low high) (decode j s)) → f ≡ foundOf (contained (between low high) (decode k s))
-  found-from = subst (λ (i : Class). f ≡ foundOf (contained (between low high) (decode i s))) (sym e)
-
-pub ruleset classes = (found-to, found-from, needs)

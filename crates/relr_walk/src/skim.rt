@@ -97,7 +97,7 @@ pub struct Passed {
 }
 
 // Passes the words from here on that lie between the two ends: a comparison with each end for a word, none for a bit.
-pub fn pass(k: Class, s: &[u8], low: u64, high: u64, from: Passed) -> Passed
+fn pass(k: Class, s: &[u8], low: u64, high: u64, from: Passed) -> Passed
     requires { ⌜ Skimmable k (now s) low high from ⌝ }
     ensures { λ r. ⌜ Skims k (now (s .entry)) low high from r ⌝ }
 {
