@@ -3,13 +3,15 @@
 use mathlib.Core.Bool.{Bool, true, false}
 use mathlib.Core.List.{List, [], _∷_, _++_}
 use mathlib.Core.Path.{_≡_, refl, sym, ap, subst, _∙_}
-use Prim.Native.Nat.{ℕ, _+_, _-_, _*_, _/_, _%_, _^_, _≤_, _<_}
+use Prim.Native.Nat.{ℕ, zero, suc, _+_, _-_, _*_, _/_, _%_, _^_, _≤_, _<_}
+use native.Mathlib.Nat.{mod-eq-of-lt, mul-le-mul-right}
 use native.Mathlib.Omega.{arith}
 use native.Mathlib.Decide.{decLe}
 use lib.Dec.{leb, ltb}
 use lib.Bits.{bitAnd}
 use lib.Count.{trailingZeros}
 use lib.ListN.{length}
+use lib.Pow.{shr-shr}
 use mir.Syntax.{w64}
 use mir.Val.{Fits}
 use borrow.Author.Needs.{needs}
@@ -30,11 +32,11 @@ use Rattle.word.specs.Word.{wordAt, withWord}
 use Rattle.relr_table.specs.Table.{spaceOf, decode, inside, Inside, All, contained, targets, indexes, added, patched, above}
 use Rattle.relr_table.specs.Contract.{changed, AppliesIn}
 use Rattle.relr_table.specs.Inner.{marksOf, full, between}
-use Rattle.relr_apply.specs.Inner.{Patchable, Targeted, Patched, End}
+use Rattle.relr_apply.specs.Inner.{Addable, Added, Patchable, Spacious, Windows, Sized, Targeted, Patched, End}
 use Rattle.relr_table.proofs.Marked.{all-left, all-right}
 use Rattle.relr_table.proofs.PlaceNeeds.{one-mark}
 use Rattle.relr_table.proofs.Passed.{step-fits, step-less, space-most}
-use Rattle.relr_table.proofs.SetBits.{Next, Left, left-begin, left-end, left-head, left-next, left-fits, next-zeros, next-full, full-none, far-small, run-bit, run-less, zeros-fit, zeros-far, zeros-less}
+use Rattle.relr_table.proofs.SetBits.{Next, Left, left-begin, left-end, left-head, left-next, left-fits, next-zeros, next-full, full-none, Through, through-begin, through-end, through-clear, through-head, through-set, far-small, run-bit, run-less, zeros-fit, zeros-far, zeros-less}
 use Rattle.relr_table.proofs.Following.{Following, Followed, following-begin, following-load, following-end, follow-address, follow-bitmap}
 use Rattle.relr_table.proofs.Decoding.{decode-good, contained-space}
 use Rattle.relr_table.proofs.Applying.{patched-length, patched-more, patched-one, targets-over, targets-in, targets-accepted}
@@ -44,6 +46,33 @@ pub adds : (k : Class) (image new : List ℕ) (x base : ℕ) {w v : ℕ} → w �
     → new ≡ added (bytesOf k) base image x
 unfolding added
 adds k image new x base e f g = g ∙ rw (f, e)
+
+-- ---- one addition or none
+module _ {k : Class} {times : ℕ} {image : List ℕ} {x : ℕ} (m : Addable k times image x) where
+  pub times-in : x + bytesOf k ≤ length image
+  times-in = m .in-image
+
+  pub times-fits : (base : ℕ) → base < 2 ^ 64 → Fits w64 (base * times)
+  times-fits base h = go times (m .once)
+    where
+      go : (t : ℕ) → t < 2 → Fits w64 (base * t)
+      go zero l = record { fits = omega arith }
+      go (suc zero) l = record { fits = omega arith }
+      go (suc (suc t)) l = absurd (omega arith)
+
+  pub times-added : (base : ℕ) {new : List ℕ} {w v : ℕ} → w ≡ wordAt (bytesOf k) image x → w < 2 ^ bitsOf k → withWord (bytesOf k) image x w ≡ image
+      → v ≡ (w + base * times) % 2 ^ bitsOf k → new ≡ withWord (bytesOf k) image x v → Added k base times image new x
+  times-added base {new} {w} {v} e l back f g =
+      record {
+        none = λ z.
+            let s : w + base * times ≡ w = rw z (omega arith) in
+            g ∙ ap (withWord (bytesOf k) image x) (f ∙ rw s (mod-eq-of-lt l)) ∙ back;
+        once = λ z.
+            let s : w + base * times ≡ w + base = rw z (omega arith) in
+            adds k image new x base e (f ∙ rw s) g;
+      }
+
+pub ruleset times = (times-in, times-fits, times-added, needs)
 
 -- ---- a word's locations
 pub record Patching (k : Class) (old : List ℕ) (base start anchor set : ℕ) (image : List ℕ) (bits : ℕ) : Type 0 where
@@ -145,7 +174,116 @@ module _ {k : Class} {old : List ℕ} {base start anchor n : ℕ} (m : Patchable
 
 pub ruleset runnings = (running-begin, running-long, running-end, running-far, running-low, running-in, running-fits, running-set, run-bit, run-less, needs)
 
+-- location by location: x is the index of the location at j
+pub record Sweeping (k : Class) (old : List ℕ) (base start anchor set at : ℕ) (image : List ℕ) (bits x j : ℕ) : Type 0 where
+  pub p : List ℕ
+  pub through : Through k anchor set j p
+  pub rest : bits ≡ set / 2 ^ j
+  pub here : x ≡ at + j * bytesOf k
+  pub held : image ≡ patched (bytesOf k) base (indexes start p) old
+
+-- an index and an offset that stand for one another, further on
+index-is : (at start anchor t : ℕ) → (at + start) % 2 ^ 64 ≡ anchor → start ≤ anchor + t → at + t < 2 ^ 64 → at + t ≡ anchor + t - start
+index-is at start anchor t e l h = omega arith
+
+module _ {k : Class} {old : List ℕ} {base start anchor set at : ℕ} (m : Spacious k start old anchor set) where
+  pub sweeping-begin : Sweeping k old base start anchor set at old set at 0
+  unfolding patched indexes
+  sweeping-begin = record { p = []; through = through-begin k anchor set; rest = omega arith; here = omega arith; held = refl }
+
+  module _ {image : List ℕ} {bits x j : ℕ} (g : Sweeping k old base start anchor set at image bits x j) where
+    pub sweeping-long : length image ≡ length old
+    sweeping-long = ap length (g .held) ∙ patched-length (bytesOf k) base (indexes start (g .p)) old
+
+    module _ {n : ℕ} (ne : n ≡ windowOf k) where
+      pub sweeping-end : n ≤ j → image ≡ patched (bytesOf k) base (indexes start (marksOf k set anchor)) old
+      sweeping-end h = let e = through-end (g .through) (omega arith) in rw e (g .held)
+
+      module _ (l : j < n) (small : at < 2 ^ 64) (ae : (at + start) % 2 ^ 64 ≡ anchor) where
+        less : j < windowOf k
+        less = omega arith
+
+        sweeping-room : x + bytesOf k ≤ length old
+        sweeping-room = omega (arith, g .here, m .room at small ae, mul-le-mul-right (bytesOf k) (next less))
+          where
+            next : j < windowOf k → j + 1 ≤ windowOf k
+            next h = omega arith
+
+        pub sweeping-addable : Addable k (bits % 2) image x
+        sweeping-addable = record { once = omega arith; in-image = rw sweeping-long sweeping-room }
+
+        pub sweeping-low : length old * 1 < 2 ^ 63 → at < 2 ^ 63
+        sweeping-low h = omega (arith, m .room at small ae)
+
+        pub sweeping-on : {c : ℕ} → c ≡ bytesOf k → length old * 1 < 2 ^ 63 → Fits w64 (x + c)
+        sweeping-on ce h = record { fits = omega (arith, sweeping-room) }
+
+        module _ {new : List ℕ} {c : ℕ} (a : Added k base (bits % 2) image new x) (ce : c ≡ bytesOf k) (h : length old * 1 < 2 ^ 63) where
+          half : bits / 2 ≡ set / 2 ^ (j + 1)
+          half = rw (g .rest) (shr-shr set j 1)
+
+          next : x + c ≡ at + (j + 1) * bytesOf k
+          next = rw (ce, g .here) (omega arith)
+
+          clear : bits % 2 ≡ 0 → Sweeping k old base start anchor set at new (bits / 2) (x + c) (j + 1)
+          clear e = record { p = g .p; through = through-clear (g .through) less (rw (g .rest) at e); rest = half; here = next; held = a .none e ∙ g .held }
+
+          marks : bits % 2 ≡ 1 → Sweeping k old base start anchor set at new (bits / 2) (x + c) (j + 1)
+          marks e =
+              let f : set / 2 ^ j % 2 ≡ 1 = rw (g .rest) at e in
+              let y = anchor + j * bytesOf k in
+              let P = Inside (bytesOf k) start (length old) in
+              let inside = all-right P (g .p) _ (subst (All P) (through-head (g .through) less f) (m .patchable .in-image)) .0 in
+              let is : x ≡ y - start = g .here ∙ index-is at start anchor (j * bytesOf k) ae (inside .0) (omega (arith, g .here, sweeping-room)) in
+              record {
+                p = g .p ++ y ∷ [];
+                through = through-set (g .through) less f;
+                rest = half;
+                here = next;
+                held = a .once e ∙ rw (is, g .held, patched-more) (sym (patched-one (bytesOf k) base start y (patched (bytesOf k) base (indexes start (g .p)) old)));
+              }
+
+          pub sweeping-next : Sweeping k old base start anchor set at new (bits / 2) (x + c) (j + 1)
+          sweeping-next = go (bits % 2) refl
+            where
+              go : (d : ℕ) → bits % 2 ≡ d → Sweeping k old base start anchor set at new (bits / 2) (x + c) (j + 1)
+              go zero e = clear e
+              go (suc zero) e = marks e
+              go (suc (suc d)) e = absurd (omega arith)
+
+pub ruleset sweepings = (sweeping-begin, sweeping-long, sweeping-end, sweeping-addable, sweeping-low, sweeping-on, sweeping-next, run-bit, run-less, needs)
+
+-- how many windows fit
+module _ (k : Class) (size : ℕ) {d : ℕ} (de : d ≡ windowOf k * bytesOf k) where
+  pub windows-none : size < d → Windows k size 0
+  windows-none h = record { fits = λ x l. absurd (omega arith) }
+
+  pub windows-some : d ≤ size → Windows k size (size - d + 1)
+  windows-some h = record { fits = λ x l. omega arith }
+
+  pub windows-fit : size < 2 ^ 64 → Fits w64 (size - d + 1)
+  windows-fit h = record { fits = omega (arith, some) }
+    where
+      one : 1 ≤ windowOf k
+      one = omega (arith, bytes-least k)
+
+      some : 0 < d
+      some = rw de (omega (arith, bytes-least k, mul-le-mul-right (bytesOf k) one))
+
+pub ruleset fittings = (windows-none, windows-some, windows-fit, needs)
+
 -- which it is
+module _ {k : Class} {start room : ℕ} {image : List ℕ} {anchor set : ℕ} (s : Sized k start room image anchor set) where
+  pub bitmap-marks : Patchable k start image anchor set
+  bitmap-marks = s .patchable
+
+  pub bitmap-spacious : {r : ℕ} → r < 2 ^ 64 → (r + start) % 2 ^ 64 ≡ anchor → r < room → Spacious k start image anchor set
+  bitmap-spacious {r} small e l =
+      record {
+        patchable = s .patchable;
+        room = λ d h f. let same : d ≡ r = omega arith in rw same (s .windows .fits r l);
+      }
+
 module _ (k : Class) {set r : ℕ} (e : set ≡ r) (g : r ≡ full k) where
   pub bitmap-run : {image : List ℕ} {start anchor : ℕ} → Patchable k start image anchor set → Patchable k start image anchor (full k)
   bitmap-run {image} {start} {anchor} = subst (λ (b : ℕ). Patchable k start image anchor b) (e ∙ g)
@@ -154,7 +292,7 @@ module _ (k : Class) {set r : ℕ} (e : set ≡ r) (g : r ≡ full k) where
       → new ≡ patched (bytesOf k) base (indexes start (marksOf k set anchor)) old
   bitmap-ran old {new} base start anchor = subst (λ (b : ℕ). new ≡ patched (bytesOf k) base (indexes start (marksOf k b anchor)) old) (sym (e ∙ g))
 
-pub ruleset bitmaps = (bitmap-run, bitmap-ran, needs)
+pub ruleset bitmaps = (bitmap-marks, bitmap-spacious, bitmap-run, bitmap-ran, needs)
 
 -- ---- a table's words
 pub record Working (k : Class) (s old : List ℕ) (base start at p : ℕ) (image : List ℕ) : Type 0 where
@@ -206,8 +344,12 @@ module _ {k : Class} {s old : List ℕ} {base start : ℕ} (f : Targeted k s sta
         word : Followed k s (g .list) (f .good .list) at p (x / 2) ((p + windowOf k * bytesOf k) % 2 ^ 64)
         word = follow-bitmap (g .following) (f .good .is) l e small odd
 
-        pub working-marks : Patchable k start image p (x / 2)
-        working-marks = record { in-window = word .in-window; in-space = word .among .fits; in-image = in-image word }
+        pub working-marks : {room : ℕ} → Windows k (length old) room → Sized k start room image p (x / 2)
+        working-marks w =
+            record {
+              patchable = record { in-window = word .in-window; in-space = word .among .fits; in-image = in-image word };
+              windows = record { fits = rw working-long (w .fits) };
+            }
 
         pub working-more : {new : List ℕ} {c d q : ℕ} → c ≡ bytesOf k → d ≡ windowOf k * bytesOf k → q ≡ (p + d) % 2 ^ 64
             → new ≡ patched (bytesOf k) base (indexes start (marksOf k (x / 2) p)) image → Working k s old base start (at + c) q new

@@ -6,7 +6,7 @@ ghost use Rattle.word.specs.Class.{bytesOf};
 ghost use Rattle.relr_table.specs.Table.{above, indexes, added, patched};
 ghost use Rattle.relr_table.specs.Contract.{AppliesIn};
 ghost use Rattle.relr_table.specs.Inner.{flagged, marksOf, full};
-ghost use Rattle.relr_apply.specs.Inner.{Patchable, Targeted, Patched, End};
+ghost use Rattle.relr_apply.specs.Inner.{Addable, Added, Patchable, Spacious, Windows, Sized, Targeted, Patched, End};
 use answer::Answer;
 use answer::Found;
 use answer::Refusal;
@@ -20,6 +20,15 @@ fn add_at(k: Class, image: &mut [u8], x: usize, base: u64)
 {
     let w = word::load(k, image, x);
     word::store(k, &mut *image, x, word::add(k, w, base));
+}
+
+// Adds the base to the word at x once, or not at all.
+fn add_times(k: Class, image: &mut [u8], x: usize, base: u64, times: u64)
+    requires { ⌜ Addable k times (now image) x ⌝ }
+    ensures { λ _. ⌜ Added k base times (now (image .entry)) (now (image .exit)) x ⌝ }
+{
+    let w = word::load(k, image, x);
+    word::store(k, &mut *image, x, word::add(k, w, base * times));
 }
 
 // Adds the base at each location that the bits mark from an offset on.
@@ -50,16 +59,51 @@ fn patch_run(k: Class, image: &mut [u8], base: u64, start: u64, anchor: u64)
     }
 }
 
-// Either.
-fn patch_bitmap(k: Class, image: &mut [u8], base: u64, start: u64, anchor: u64, set: u64)
-    requires { ⌜ Patchable k start (now image) anchor set ⌝ }
+// The same where the whole window lies inside the image: a location whose bit is clear gets 0 added, so that no branch hangs on a bit.
+fn patch_window(k: Class, image: &mut [u8], base: u64, start: u64, anchor: u64, set: u64)
+    requires { ⌜ Spacious k start (now image) anchor set ⌝ }
     ensures { λ _. ⌜ now (image .exit) ≡ patched (bytesOf k) base (indexes start (marksOf k set anchor)) (now (image .entry)) ⌝ }
 {
-    if set == place::full_bits(k) {
-        patch_run(k, image, base, start, anchor);
-    } else {
-        patch_marks(k, image, base, start, anchor, set);
+    let at = std::num::wrapping_sub_u64(anchor, start) as usize;
+    let window = k.window() as u64;
+    let mut bits = set;
+    let mut x = at;
+    let mut j: u64 = 0;
+    while j < window {
+        add_times(k, &mut *image, x, base, bits % 2);
+        x += place::step(k, at) as usize;
+        bits = bits / 2;
+        j += 1;
     }
+}
+
+// How many indexes of an image, from 0 on, a whole window fits at.
+fn windows(k: Class, size: usize) -> u64
+    ensures { λ r. ⌜ Windows k size r ⌝ }
+{
+    let n = size as u64;
+    if n < k.stride() {
+        return 0;
+    }
+    n - k.stride() + 1
+}
+
+// Whichever is fastest. (Bits that are all set are many.)
+fn patch_bitmap(k: Class, image: &mut [u8], base: u64, start: u64, room: u64, anchor: u64, set: u64)
+    requires { ⌜ Sized k start room (now image) anchor set ⌝ }
+    ensures { λ _. ⌜ now (image .exit) ≡ patched (bytesOf k) base (indexes start (marksOf k set anchor)) (now (image .entry)) ⌝ }
+{
+    if place::crowded(k, set) {
+        if set == place::full_bits(k) {
+            patch_run(k, image, base, start, anchor);
+            return;
+        }
+        if std::num::wrapping_sub_u64(anchor, start) < room {
+            patch_window(k, image, base, start, anchor, set);
+            return;
+        }
+    }
+    patch_marks(k, image, base, start, anchor, set);
 }
 
 // The second pass, over a table that the first accepted, whose words all lie inside the image. *Where* wraps: beyond the space no bitmap has a
@@ -70,6 +114,7 @@ fn patch(k: Class, s: &[u8], base: u64, start: u64, image: &mut [u8])
 {
     let c = k.bytes() as usize;
     let stride = k.stride();
+    let room = windows(k, image.len());
     let mut at: usize = 0;
     let mut place: u64 = 0;
     while at < s.len() {
@@ -79,7 +124,7 @@ fn patch(k: Class, s: &[u8], base: u64, start: u64, image: &mut [u8])
             add_at(k, &mut *image, (x - start) as usize, base);
             place = std::num::wrapping_add_u64(x, c as u64);
         } else {
-            patch_bitmap(k, &mut *image, base, start, place, x / 2);
+            patch_bitmap(k, &mut *image, base, start, room, place, x / 2);
             place = std::num::wrapping_add_u64(place, stride);
         }
     }

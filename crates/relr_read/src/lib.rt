@@ -47,14 +47,21 @@ fn fill_run(k: Class, column: &mut [u64], at: usize, anchor: u64) -> usize
 
 // The same where a window more than there is to put fits: each location is put at the index, which moves on where its bit is set, so that no
 // branch hangs on a bit.
-fn fill_window(k: Class, column: &mut [u64], count: usize, at: usize, anchor: u64, set: u64) -> usize
+fn fill_window(
+    k: Class,
+    column: &mut [u64],
+    count: usize,
+    at: usize,
+    anchor: u64,
+    set: u64,
+) -> usize
     requires { ⌜ Ample k count (now column) at anchor set ⌝ }
     ensures { λ r. ⌜ Laid count (now (column .entry)) (now (column .exit)) at r (marksOf k set anchor) ⌝ }
 {
-    let n = k.window() as u64;
+    let window = k.window() as u64;
     let mut i = at;
     let mut j: u64 = 0;
-    while j < n {
+    while j < window {
         column[i] = std::num::wrapping_add_u64(anchor, j * (k.bytes() as u64));
         i += ((set >> j) % 2) as usize;
         j += 1;
@@ -63,7 +70,14 @@ fn fill_window(k: Class, column: &mut [u64], count: usize, at: usize, anchor: u6
 }
 
 // Whichever is fastest. Of a column that is filled to an index in all, what lies between may be anything.
-fn fill_bitmap(k: Class, column: &mut [u64], count: usize, at: usize, anchor: u64, set: u64) -> usize
+fn fill_bitmap(
+    k: Class,
+    column: &mut [u64],
+    count: usize,
+    at: usize,
+    anchor: u64,
+    set: u64,
+) -> usize
     requires { ⌜ Bounded k count (now column) at anchor set ⌝ }
     ensures { λ r. ⌜ Laid count (now (column .entry)) (now (column .exit)) at r (marksOf k set anchor) ⌝ }
 {

@@ -201,7 +201,7 @@ module _ {k : Class} {anchor set j : ℕ} {p : List ℕ} (t : Through k anchor s
         }
 
     module _ (e : set / 2 ^ j % 2 ≡ 1) where
-      through-head : marksOf k set anchor ≡ p ++ (anchor + j * bytesOf k) ∷ marked (bytesOf k) (windowOf k - (j + 1)) (set / 2 ^ (j + 1)) (anchor + (j + 1) * bytesOf k)
+      pub through-head : marksOf k set anchor ≡ p ++ (anchor + j * bytesOf k) ∷ marked (bytesOf k) (windowOf k - (j + 1)) (set / 2 ^ (j + 1)) (anchor + (j + 1) * bytesOf k)
       through-head = t .marks ∙ rw (one-more, marked-set (bytesOf k) (windowOf k - (j + 1)) (set / 2 ^ j) (anchor + j * bytesOf k) e, half, on)
 
       pub through-set : Through k anchor set (j + 1) (p ++ (anchor + j * bytesOf k) ∷ [])

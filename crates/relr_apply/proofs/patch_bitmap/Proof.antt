@@ -5,7 +5,13 @@ use Rattle.relr_apply.proofs.patch_bitmap.Reads as reads
 use Rattle.relr_apply.proofs.patch_bitmap.Lts as lts
 use Rattle.relr_apply.proofs.patch_marks.Reads as patch-marks-reads
 use Rattle.relr_apply.proofs.patch_run.Reads as patch-run-reads
+use Rattle.relr_apply.proofs.patch_window.Reads as patch-window-reads
+use Rattle.relr_table.proofs.place.crowded.Reads as crowded-reads
 use Rattle.relr_table.proofs.place.full_bits.Reads as full-bits-reads
+use Rattle.std.proofs.num.wrapping_sub_u64.Reads as wrapping-sub-u64-reads
+
+crowded-requires : tie.Need-crowded-requires
+crowded-requires c κs = search bitmaps
 
 full-bits-requires : tie.Need-full-bits-requires
 full-bits-requires c κs = search bitmaps
@@ -13,14 +19,17 @@ full-bits-requires c κs = search bitmaps
 patch-run-requires : tie.Need-patch-run-requires
 patch-run-requires c κs = search bitmaps
 
-patch-marks-requires : tie.Need-patch-marks-requires
-patch-marks-requires c κs = search bitmaps
-
 same-length : tie.Need-same-length
 same-length c = search bitmaps
 
 returns : tie.Need-returns
 returns c = search bitmaps
+
+wrapping-sub-u64-requires : tie.Need-wrapping-sub-u64-requires
+wrapping-sub-u64-requires c κs = search bitmaps
+
+patch-window-requires : tie.Need-patch-window-requires
+patch-window-requires c κs = search bitmaps
 
 same-length-2 : tie.Need-same-length-2
 same-length-2 c = search bitmaps
@@ -28,14 +37,28 @@ same-length-2 c = search bitmaps
 returns-2 : tie.Need-returns-2
 returns-2 c = search bitmaps
 
+patch-marks-requires : tie.Need-patch-marks-requires
+patch-marks-requires c κs = search bitmaps
+
+same-length-3 : tie.Need-same-length-3
+same-length-3 c = search bitmaps
+
+returns-3 : tie.Need-returns-3
+returns-3 c = search bitmaps
+
 pub patch-bitmap-spec : {M : Type 1} → statement M
 patch-bitmap-spec =
     tie.close
     (tie.spec
+    crowded-requires
     full-bits-requires
     patch-run-requires
-    patch-marks-requires
     same-length
     returns
+    wrapping-sub-u64-requires
+    patch-window-requires
     same-length-2
-    returns-2)
+    returns-2
+    patch-marks-requires
+    same-length-3
+    returns-3)

@@ -9,16 +9,16 @@ use Rattle.word.proofs.Class.bytes.Reads as bytes-reads
 use Rattle.word.proofs.Class.window.Reads as window-reads
 
 abbrev Inv-loop : tie.InvT-loop
-Inv-loop k column₀ count at anchor set n i₀ j₀ column i j = Spreading k count column₀ at anchor set column i j
+Inv-loop k column₀ count at anchor set window i₀ j₀ column i j = Spreading k count column₀ at anchor set column i j
 
 abbrev μ-loop : tie.MeasureT-loop
-μ-loop k column₀ count at anchor set n i₀ j₀ column i j = n - j
+μ-loop k column₀ count at anchor set window i₀ j₀ column i j = window - j
 
 window-requires : tie.Need-window-requires Inv-loop μ-loop
 window-requires c κs = search spreadings
 
-cast-n : tie.Need-cast-n Inv-loop μ-loop
-cast-n c = search spreadings
+cast-window : tie.Need-cast-window Inv-loop μ-loop
+cast-window c = search spreadings
 
 loop-holds : tie.Need-loop-holds Inv-loop μ-loop
 loop-holds c = search spreadings
@@ -69,7 +69,7 @@ fill-window-spec =
     Inv-loop
     μ-loop
     window-requires
-    cast-n
+    cast-window
     loop-holds
     bytes-requires
     cast-wrapping-add-u64
