@@ -37,7 +37,7 @@ use Rattle.relr_table.proofs.Marked.{all-left, all-right}
 use Rattle.relr_table.proofs.PlaceNeeds.{one-mark}
 use Rattle.relr_table.proofs.Passed.{step-fits, step-less, space-most}
 use Rattle.relr_table.proofs.SetBits.{Next, Left, left-begin, left-end, left-head, left-next, left-fits, next-zeros, next-full, full-none, Through, through-begin, through-end, through-clear, through-head, through-set, far-small, run-bit, run-less, zeros-fit, zeros-far, zeros-less}
-use Rattle.relr_table.proofs.Following.{Following, Followed, following-begin, following-load, following-end, follow-address, follow-bitmap}
+use Rattle.relr_table.proofs.Following.{Following, Followed, following-begin, following-load, following-end, follow-address, follow-bitmap, behind-on}
 use Rattle.relr_table.proofs.Decoding.{decode-good, contained-space}
 use Rattle.relr_table.proofs.Applying.{patched-length, patched-more, patched-one, targets-over, targets-in, targets-accepted}
 
@@ -295,17 +295,17 @@ module _ (k : Class) {set r : ℕ} (e : set ≡ r) (g : r ≡ full k) where
 pub ruleset bitmaps = (bitmap-marks, bitmap-spacious, bitmap-run, bitmap-ran, needs)
 
 -- ---- a table's words
-pub record Working (k : Class) (s old : List ℕ) (base start at p : ℕ) (image : List ℕ) : Type 0 where
+pub record Working (k : Class) (s old : List ℕ) (base start at behind : ℕ) (image : List ℕ) : Type 0 where
   pub list : List ℕ
-  pub following : Following k s list at p
+  pub following : Following k s list at ((behind + bytesOf k) % 2 ^ 64)
   pub held : image ≡ patched (bytesOf k) base (indexes start list) old
 
 module _ {k : Class} {s old : List ℕ} {base start : ℕ} (f : Targeted k s start old) where
   pub working-begin : Working k s old base start 0 0 old
   unfolding patched indexes
-  working-begin = record { list = []; following = following-begin k s (f .good .whole); held = refl }
+  working-begin = record { list = []; following = following-begin k s _ (f .good .whole); held = refl }
 
-  module _ {at p : ℕ} {image : List ℕ} (g : Working k s old base start at p image) where
+  module _ {at behind : ℕ} {image : List ℕ} (g : Working k s old base start at behind image) where
     pub working-long : length image ≡ length old
     working-long = ap length (g .held) ∙ patched-length (bytesOf k) base (indexes start (g .list)) old
 
@@ -319,9 +319,9 @@ module _ {k : Class} {s old : List ℕ} {base start : ℕ} (f : Targeted k s sta
           let P = Inside (bytesOf k) start (length old) in
           rw working-long (all-right P (g .list) (marksOf k set anchor) (all-left P (g .list ++ marksOf k set anchor) (a .rest) (rw (a .whole) at (f .in-image))))
 
-      more : {new : List ℕ} {c q : ℕ} → c ≡ bytesOf k → q ≡ next → new ≡ patched (bytesOf k) base (indexes start (marksOf k set anchor)) image
-          → Working k s old base start (at + c) q new
-      more ce qe u = rw (ce, qe) (record { list = g .list ++ marksOf k set anchor; following = word .on; held = u ∙ rw (g .held, patched-more) })
+      more : {new : List ℕ} {c b : ℕ} → c ≡ bytesOf k → (b + bytesOf k) % 2 ^ 64 ≡ next → new ≡ patched (bytesOf k) base (indexes start (marksOf k set anchor)) image
+          → Working k s old base start (at + c) b new
+      more ce be u = rw ce (record { list = g .list ++ marksOf k set anchor; following = rw be (word .on); held = u ∙ rw (g .held, patched-more) })
 
     module _ {x : ℕ} (l : at < length s) (e : x ≡ wordAt (bytesOf k) s at) where
       module _ (even : x % 2 ≡ 0) where
@@ -337,25 +337,35 @@ module _ {k : Class} {s old : List ℕ} {base start : ℕ} (f : Targeted k s sta
         pub working-in : x - start + bytesOf k ≤ length image
         working-in = word-inside .1
 
-        pub working-one : {new : List ℕ} {c q : ℕ} → c ≡ bytesOf k → q ≡ (x + c) % 2 ^ 64 → new ≡ added (bytesOf k) base image (x - start) → Working k s old base start (at + c) q new
-        working-one ce qe u = more alone ce (qe ∙ rw ce) (u ∙ rw (one-mark k x) (sym (patched-one (bytesOf k) base start x image)))
+        pub working-one : {new : List ℕ} {c : ℕ} → c ≡ bytesOf k → new ≡ added (bytesOf k) base image (x - start) → Working k s old base start (at + c) x new
+        working-one ce u = more alone ce refl (u ∙ rw (one-mark k x) (sym (patched-one (bytesOf k) base start x image)))
 
-      module _ (small : x < spaceOf k) (odd : x % 2 ≡ 0 → ⊥) where
-        word : Followed k s (g .list) (f .good .list) at p (x / 2) ((p + windowOf k * bytesOf k) % 2 ^ 64)
-        word = follow-bitmap (g .following) (f .good .is) l e small odd
+      module _ {c a : ℕ} (small : x < spaceOf k) (odd : x % 2 ≡ 0 → ⊥) (ce : c ≡ bytesOf k) (ae : a ≡ (behind + c) % 2 ^ 64) where
+        anchor : a ≡ (behind + bytesOf k) % 2 ^ 64
+        anchor = ae ∙ rw ce
 
-        pub working-marks : {room : ℕ} → Windows k (length old) room → Sized k start room image p (x / 2)
+        word : Followed k s (g .list) (f .good .list) at a (x / 2) ((a + windowOf k * bytesOf k) % 2 ^ 64)
+        word = rw anchor (follow-bitmap (g .following) (f .good .is) l e small odd)
+
+        pub working-marks : {room : ℕ} → Windows k (length old) room → Sized k start room image a (x / 2)
         working-marks w =
             record {
               patchable = record { in-window = word .in-window; in-space = word .among .fits; in-image = in-image word };
               windows = record { fits = rw working-long (w .fits) };
             }
 
-        pub working-more : {new : List ℕ} {c d q : ℕ} → c ≡ bytesOf k → d ≡ windowOf k * bytesOf k → q ≡ (p + d) % 2 ^ 64
-            → new ≡ patched (bytesOf k) base (indexes start (marksOf k (x / 2) p)) image → Working k s old base start (at + c) q new
-        working-more ce de qe u = more word ce (qe ∙ rw de) u
+        more-of : {new : List ℕ} {d b : ℕ} → d ≡ windowOf k * bytesOf k → b ≡ (behind + d) % 2 ^ 64
+            → new ≡ patched (bytesOf k) base (indexes start (marksOf k (x / 2) a)) image → Working k s old base start (at + c) b new
+        more-of {d = d} de be u = more word ce (rw (be, ← de) (behind-on behind a d (bytesOf k) anchor)) u
 
-module _ {k : Class} {s old : List ℕ} {base start at p : ℕ} {image : List ℕ} (g : Working k s old base start at p image) where
+-- what the bitmap does comes first, since it shows where it stands
+pub working-more : {k : Class} {s old : List ℕ} {base start at behind : ℕ} {image new : List ℕ} {x c a d b : ℕ}
+    → new ≡ patched (bytesOf k) base (indexes start (marksOf k (x / 2) a)) image → a ≡ (behind + c) % 2 ^ 64 → b ≡ (behind + d) % 2 ^ 64 → x ≡ wordAt (bytesOf k) s at
+    → Working k s old base start at behind image → Targeted k s start old → at < length s → x < spaceOf k → (x % 2 ≡ 0 → ⊥) → c ≡ bytesOf k → d ≡ windowOf k * bytesOf k
+    → Working k s old base start (at + c) b new
+working-more u ae be e g f l small odd ce de = more-of f g l e small odd ce ae de be u
+
+module _ {k : Class} {s old : List ℕ} {base start at behind : ℕ} {image : List ℕ} (g : Working k s old base start at behind image) where
   pub working-load : at < length s → at + bytesOf k ≤ length s
   working-load l = following-load (g .following) l
 

@@ -106,8 +106,8 @@ fn patch_bitmap(k: Class, image: &mut [u8], base: u64, start: u64, room: u64, an
     patch_marks(k, image, base, start, anchor, set);
 }
 
-// The second pass, over a table that the first accepted, whose words all lie inside the image. *Where* wraps: beyond the space no bitmap has a
-// bit set.
+// The second pass, over a table that the first accepted, whose words all lie inside the image. The location a word before *where* is kept, and
+// wraps: beyond the space no bitmap has a bit set.
 fn patch(k: Class, s: &[u8], base: u64, start: u64, image: &mut [u8])
     requires { ⌜ Targeted k (now s) start (now image) ⌝ }
     ensures { λ _. ⌜ Patched k (now (s .entry)) base start (now (image .entry)) (now (image .exit)) ⌝ }
@@ -116,16 +116,17 @@ fn patch(k: Class, s: &[u8], base: u64, start: u64, image: &mut [u8])
     let stride = k.stride();
     let room = windows(k, image.len());
     let mut at: usize = 0;
-    let mut place: u64 = 0;
+    let mut behind: u64 = 0;
     while at < s.len() {
         let x = word::load(k, s, at);
         at += c;
         if x % 2 == 0 {
             add_at(k, &mut *image, (x - start) as usize, base);
-            place = std::num::wrapping_add_u64(x, c as u64);
+            behind = x;
         } else {
-            patch_bitmap(k, &mut *image, base, start, room, place, x / 2);
-            place = std::num::wrapping_add_u64(place, stride);
+            let anchor = std::num::wrapping_add_u64(behind, c as u64);
+            patch_bitmap(k, &mut *image, base, start, room, anchor, x / 2);
+            behind = std::num::wrapping_add_u64(behind, stride);
         }
     }
 }

@@ -1,6 +1,5 @@
 -- The needs of the second pass of a read, stated as the code asks them.
 -- Assumes nothing.
-use mathlib.Core.Bool.{true}
 use mathlib.Core.List.{List, [], _∷_, _++_, append-assoc, append-nil}
 use mathlib.Core.Path.{_≡_, refl, sym, ap, subst, _∙_}
 use Prim.Native.Nat.{ℕ, zero, suc, _+_, _-_, _*_, _/_, _%_, _^_, _≤_, _<_}
@@ -13,7 +12,6 @@ use lib.Seq.{sets, sets-eq, length-sets, length-take-le, take-at, take-set-le, t
 use mir.Syntax.{w64}
 use mir.Val.{Fits}
 use borrow.Author.Needs.{needs, scaled-fits}
-use borrow.Author.Tests.{lt-ltb, le-leb}
 use Rattle.answer.specs.Outcome.Laws.{sets-append, found-count, filled-self, gives-not, gives-short, gives-full}
 use Rattle.answer.specs.Written.{Written, written-long}
 use Rattle.answer.specs.declared.Found.{Found}
@@ -23,15 +21,14 @@ use Rattle.word.specs.declared.Class.{Class}
 use Rattle.word.specs.Class.{bytesOf, windowOf}
 use Rattle.word.specs.Word.{wordAt}
 use Rattle.word.specs.Class.Laws.{bytes-least, bytes-most}
-use Rattle.relr_table.specs.Inner.{marksOf, full, between}
+use Rattle.relr_table.specs.Inner.{marksOf, full}
 use Rattle.relr_read.specs.Inner.{Markable, Bounded, Ample, Laid, Fillable, Filled}
 use Rattle.relr_table.proofs.PlaceNeeds.{one-mark}
-use Rattle.relr_table.proofs.Passed.{among-long, step-fits, step-less, space-most}
-use Rattle.relr_table.proofs.Following.{Following, Followed, following-begin, following-load, following-end, follow-address, follow-bitmap}
+use Rattle.relr_table.proofs.Passed.{among-long, step-fits, step-less}
+use Rattle.relr_table.proofs.Following.{Following, Followed, following-begin, following-load, following-end, follow-address, follow-bitmap, behind-on}
 use Rattle.relr_table.proofs.SetBits.{Next, Left, left-begin, left-end, left-next, left-more, left-fits, next-zeros, next-full, full-none, Through, through-begin, through-end, through-clear, through-set, through-fits, far-small, run-bit, run-less, zeros-fit, zeros-far, zeros-less}
-use Rattle.relr_table.specs.Table.{spaceOf, decode, contained}
-use Rattle.relr_table.proofs.Decoding.{decode-good, contained-space}
-use Rattle.relr_table.proofs.Leading.{contained-every}
+use Rattle.relr_table.specs.Table.{spaceOf, decode}
+use Rattle.relr_table.proofs.Decoding.{decode-good}
 
 -- ---- a word's locations
 pub record Filling (k : Class) (old : List ℕ) (at anchor set : ℕ) (column : List ℕ) (bits i : ℕ) : Type 0 where
@@ -273,9 +270,9 @@ laid-long u = u .long
 pub ruleset bitmaps = (bitmap-marks, bitmap-marked, bitmap-sum, bitmap-ample, bitmap-run, bitmap-ran, laid-long, written-long, needs)
 
 -- ---- a table's words
-pub record Reading (k : Class) (s : List ℕ) (n : ℕ) (old : List ℕ) (at p : ℕ) (column : List ℕ) (i : ℕ) : Type 0 where
+pub record Reading (k : Class) (s : List ℕ) (n : ℕ) (old : List ℕ) (at behind : ℕ) (column : List ℕ) (i : ℕ) : Type 0 where
   pub list : List ℕ
-  pub following : Following k s list at p
+  pub following : Following k s list at ((behind + bytesOf k) % 2 ^ 64)
   pub next : i ≡ length list
   pub held : take i column ≡ list
   pub kept : drop n column ≡ drop n old
@@ -283,9 +280,9 @@ pub record Reading (k : Class) (s : List ℕ) (n : ℕ) (old : List ℕ) (at p :
 
 module _ {k : Class} {s : List ℕ} {n : ℕ} {old : List ℕ} (f : Fillable k s n old) where
   pub reading-begin : Reading k s n old 0 0 old 0
-  reading-begin = record { list = []; following = following-begin k s (f .good .whole); next = refl; held = refl; kept = refl; long = refl }
+  reading-begin = record { list = []; following = following-begin k s _ (f .good .whole); next = refl; held = refl; kept = refl; long = refl }
 
-  module _ {at p : ℕ} {column : List ℕ} {i : ℕ} (g : Reading k s n old at p column i) where
+  module _ {at behind : ℕ} {column : List ℕ} {i : ℕ} (g : Reading k s n old at behind column i) where
     pub reading-long : length column ≡ length old
     reading-long = g .long
 
@@ -301,12 +298,12 @@ module _ {k : Class} {s : List ℕ} {n : ℕ} {old : List ℕ} (f : Fillable k s
       end : i + length (marksOf k set anchor) ≤ n
       end = omega (arith, among-long (word .among), f .count, g .next)
 
-      more : {new : List ℕ} {c r p : ℕ} → c ≡ bytesOf k → p ≡ next → Laid n column new i r (marksOf k set anchor) → Reading k s n old (at + c) p new r
-      more {new} {c} {r} ce pe u =
-          rw (ce, pe)
+      more : {new : List ℕ} {c r b : ℕ} → c ≡ bytesOf k → (b + bytesOf k) % 2 ^ 64 ≡ next → Laid n column new i r (marksOf k set anchor) → Reading k s n old (at + c) b new r
+      more {new} {c} {r} {b} ce be u =
+          rw ce
           (record {
             list = g .list ++ marksOf k set anchor;
-            following = word .on;
+            following = rw be (word .on);
             next = omega (arith, u .place, g .next, length-append (g .list) (marksOf k set anchor));
             held = u .list ∙ rw (g .held);
             kept = u .kept ∙ g .kept;
@@ -327,17 +324,20 @@ module _ {k : Class} {s : List ℕ} {n : ℕ} {old : List ℕ} (f : Fillable k s
         pub reading-next : length old < 2 ^ 64 → Fits w64 (i + 1)
         reading-next b = record { fits = omega (arith, reading-in, g .long) }
 
-        pub reading-one : {c q : ℕ} → c ≡ bytesOf k → q ≡ (x + c) % 2 ^ 64 → Reading k s n old (at + c) q (stored column i x) (i + 1)
-        reading-one {c} ce qe =
+        pub reading-one : {c : ℕ} → c ≡ bytesOf k → Reading k s n old (at + c) x (stored column i x) (i + 1)
+        reading-one ce =
             let m = one-mark k x in
             let e : i + 1 ≡ i + length (marksOf k 1 x) = omega (arith, ap length m) in
-            more alone ce (qe ∙ rw ce) (laid (end alone) (omega (arith, g .long, f .room)) (record { list = rw m; place = e }))
+            more alone ce refl (laid (end alone) (omega (arith, g .long, f .room)) (record { list = rw m; place = e }))
 
-      module _ (small : x < spaceOf k) (odd : x % 2 ≡ 0 → ⊥) where
-        word : Followed k s (g .list) (f .good .list) at p (x / 2) ((p + windowOf k * bytesOf k) % 2 ^ 64)
-        word = follow-bitmap (g .following) (f .good .is) l e small odd
+      module _ {c a : ℕ} (small : x < spaceOf k) (odd : x % 2 ≡ 0 → ⊥) (ce : c ≡ bytesOf k) (ae : a ≡ (behind + c) % 2 ^ 64) where
+        anchor : a ≡ (behind + bytesOf k) % 2 ^ 64
+        anchor = ae ∙ rw ce
 
-        pub reading-marks : Bounded k n column i p (x / 2)
+        word : Followed k s (g .list) (f .good .list) at a (x / 2) ((a + windowOf k * bytesOf k) % 2 ^ 64)
+        word = rw anchor (follow-bitmap (g .following) (f .good .is) l e small odd)
+
+        pub reading-marks : Bounded k n column i a (x / 2)
         reading-marks =
             record {
               marks = record { in-window = word .in-window; fits = word .among .fits; room = omega (arith, end word, g .long, f .room) };
@@ -345,11 +345,17 @@ module _ {k : Class} {s : List ℕ} {n : ℕ} {old : List ℕ} (f : Fillable k s
               room = omega (arith, g .long, f .room);
             }
 
-        pub reading-more : {new : List ℕ} {c d r q : ℕ} → c ≡ bytesOf k → d ≡ windowOf k * bytesOf k → q ≡ (p + d) % 2 ^ 64 → Laid n column new i r (marksOf k (x / 2) p)
-            → Reading k s n old (at + c) q new r
-        reading-more ce de qe u = more word ce (qe ∙ rw de) u
+        more-of : {new : List ℕ} {d r b : ℕ} → d ≡ windowOf k * bytesOf k → b ≡ (behind + d) % 2 ^ 64 → Laid n column new i r (marksOf k (x / 2) a)
+            → Reading k s n old (at + c) b new r
+        more-of {d = d} de be u = more word ce (rw (be, ← de) (behind-on behind a d (bytesOf k) anchor)) u
 
-module _ {k : Class} {s : List ℕ} {n : ℕ} {old : List ℕ} {at p : ℕ} {column : List ℕ} {i : ℕ} (g : Reading k s n old at p column i) where
+-- what the bitmap says comes first, since it shows where it stands
+pub reading-more : {k : Class} {s : List ℕ} {n : ℕ} {old : List ℕ} {at behind : ℕ} {column new : List ℕ} {i x c a d r b : ℕ} → Laid n column new i r (marksOf k (x / 2) a)
+    → a ≡ (behind + c) % 2 ^ 64 → b ≡ (behind + d) % 2 ^ 64 → x ≡ wordAt (bytesOf k) s at → Reading k s n old at behind column i → Fillable k s n old → at < length s → x < spaceOf k
+    → (x % 2 ≡ 0 → ⊥) → c ≡ bytesOf k → d ≡ windowOf k * bytesOf k → Reading k s n old (at + c) b new r
+reading-more u ae be e g f l small odd ce de = more-of f g l e small odd ce ae de be u
+
+module _ {k : Class} {s : List ℕ} {n : ℕ} {old : List ℕ} {at behind : ℕ} {column : List ℕ} {i : ℕ} (g : Reading k s n old at behind column i) where
   pub reading-load : at < length s → at + bytesOf k ≤ length s
   reading-load l = following-load (g .following) l
 
@@ -371,19 +377,6 @@ module _ {k j : Class} (e : k ≡ j) (s : List ℕ) (n : ℕ) (old : List ℕ) w
     filled-from h = subst (λ (i : Class). Filled i s old new) (sym e) h
 
 pub ruleset classes = (fillable-to, fillable-from, filled-to, filled-from, needs)
-
--- ---- the count
-pub past-last : (k : Class) (last : ℕ) → last + bytesOf k ≡ spaceOf k → Fits w64 (last + 1)
-past-last k last h = record { fits = omega (arith, space-most k, bytes-least k) }
-
--- an end past the last offset of the space holds none back
-pub counts-all : (k : Class) (s : List ℕ) (last : ℕ) {f : Found} → last + bytesOf k ≡ spaceOf k → f ≡ foundOf (contained (between 0 (last + 1)) (decode k s)) → f ≡ foundOf (decode k s)
-counts-all k s last g h =
-    let all : contained (between 0 (last + 1)) (decode k s) ≡ decode k s =
-    contained-space k s (between 0 (last + 1)) (λ x. true) (λ x l. rw (le-leb 0 x (omega arith)) (lt-ltb x (last + 1) (omega arith))) ∙ contained-every (decode k s) in
-    h ∙ ap foundOf all
-
-pub ruleset counts = (past-last, counts-all, needs)
 
 -- ---- a read for a class: f is what the first pass found
 module _ (k : Class) (s old : List ℕ) {f : Found} (is : f ≡ foundOf (decode k s)) {n : ℕ} (e : f ≡ Count n) (fits : n ≤ length old) where

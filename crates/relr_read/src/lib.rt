@@ -1,7 +1,7 @@
 // Reading a table into a column of offsets.
 ghost use Prim.Native.Nat.{_+_};
 ghost use mathlib.Core.Path.{_≡_};
-ghost use Rattle.answer.specs.Outcome.{Gives, foundOf};
+ghost use Rattle.answer.specs.Outcome.{Gives};
 ghost use Rattle.answer.specs.Written.{Written};
 ghost use Rattle.relr_table.specs.Table.{decode};
 ghost use Rattle.relr_table.specs.Inner.{flagged, marksOf, full};
@@ -92,7 +92,8 @@ fn fill_bitmap(
     fill_marks(k, column, at, anchor, set)
 }
 
-// The second pass, over a table of so many offsets that the first accepted. *Where* wraps: beyond the space no bitmap has a bit set.
+// The second pass, over a table of so many offsets that the first accepted. The location a word before *where* is kept, and wraps: beyond the
+// space no bitmap has a bit set.
 fn fill(k: Class, s: &[u8], count: usize, column: &mut [u64])
     requires { ⌜ Fillable k (now s) count (now column) ⌝ }
     ensures { λ _. ⌜ Filled k (now (s .entry)) (now (column .entry)) (now (column .exit)) ⌝ }
@@ -100,7 +101,7 @@ fn fill(k: Class, s: &[u8], count: usize, column: &mut [u64])
     let c = k.bytes() as usize;
     let stride = k.stride();
     let mut at: usize = 0;
-    let mut place: u64 = 0;
+    let mut behind: u64 = 0;
     let mut i: usize = 0;
     while at < s.len() {
         let x = word::load(k, s, at);
@@ -108,10 +109,11 @@ fn fill(k: Class, s: &[u8], count: usize, column: &mut [u64])
         if x % 2 == 0 {
             column[i] = x;
             i += 1;
-            place = std::num::wrapping_add_u64(x, c as u64);
+            behind = x;
         } else {
-            i = fill_bitmap(k, &mut *column, count, i, place, x / 2);
-            place = std::num::wrapping_add_u64(place, stride);
+            let anchor = std::num::wrapping_add_u64(behind, c as u64);
+            i = fill_bitmap(k, &mut *column, count, i, anchor, x / 2);
+            behind = std::num::wrapping_add_u64(behind, stride);
         }
     }
 }
@@ -134,18 +136,11 @@ fn fill_class(k: Class, s: &[u8], count: usize, column: &mut [u64])
     }
 }
 
-// How many offsets a table has, or its refusal. No offset is past the last one of the space.
-fn count(k: Class, table: &[u8]) -> Found
-    ensures { λ r. ⌜ r ≡ foundOf (decode k (now (table .entry))) ⌝ }
-{
-    relr_walk::find(k, table, 0, k.last() + 1)
-}
-
 // Reading, for a class.
 pub fn read_class(k: Class, table: &[u8], offsets: &mut [u64]) -> Answer
     ensures { λ r. ⌜ Gives (decode k (now (table .entry))) (now (offsets .entry)) r (now (offsets .exit)) ⌝ }
 {
-    let found = count(k, table);
+    let found = relr_walk::count(k, table);
     match found {
         Found::Refused(why, at) => answer::refuse(why, at),
         Found::Count(n) => {

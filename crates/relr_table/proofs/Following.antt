@@ -35,8 +35,12 @@ pub record Following (k : Class) (s list : List ℕ) (at p : ℕ) : Type 0 where
   pub ahead : Ahead k s list at w
   pub wraps : Wraps w p
 
-pub following-begin : (k : Class) (s : List ℕ) → Whole k s → Following k s [] 0 0
-following-begin k s h = record { w = nowhere; ahead = ahead-begin k s h; wraps = tt }
+pub following-begin : (k : Class) (s : List ℕ) (p : ℕ) → Whole k s → Following k s [] 0 p
+following-begin k s p h = record { w = nowhere; ahead = ahead-begin k s h; wraps = tt }
+
+-- from the location a word before *where* to the one before the next, each of which wraps
+pub behind-on : (b a d c : ℕ) → a ≡ (b + c) % 2 ^ 64 → ((b + d) % 2 ^ 64 + c) % 2 ^ 64 ≡ (a + d) % 2 ^ 64
+behind-on b a d c e = omega arith
 
 -- past a word: the locations that it marks come next in the table's list, and so *where* becomes `next`
 pub record Followed (k : Class) (s list l : List ℕ) (at anchor set next : ℕ) : Type 0 where

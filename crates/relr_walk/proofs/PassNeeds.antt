@@ -11,7 +11,7 @@ use lib.ListN.{length, length-append}
 use mir.Syntax.{w64}
 use mir.Val.{Fits}
 use borrow.Author.Needs.{needs}
-use borrow.Author.Tests.{lt-ltb, le-ltb}
+use borrow.Author.Tests.{lt-ltb, le-ltb, le-leb}
 use Rattle.answer.specs.declared.Refusal.{Refusal}
 use Rattle.answer.specs.declared.Refusal.the-variants.{Limit, Missing, Space, Outside}
 use Rattle.answer.specs.declared.Found.{Found}
@@ -32,12 +32,12 @@ use Rattle.relr_table.specs.declared.place.Opened.the-variants.{Address, Marks,
 use Rattle.relr_table.specs.Inner.{marksOf, OpensAt, Whole, wordsRead, between, Standing}
 use Rattle.relr_walk.specs.declared.skim.Passed.{Passed}
 use Rattle.relr_walk.specs.Inner.{grow, surveyed, none, Leads, Scanned, ScannedTo, Skimmable, Skims, origin, Begun}
-use Rattle.relr_table.proofs.Decoding.{decode-long, decode-part, decode-whole}
+use Rattle.relr_table.proofs.Decoding.{decode-long, decode-part, decode-whole, contained-space}
 use Rattle.relr_walk.proofs.SkimNeeds.{long, scan-load}
 use Rattle.relr_walk.proofs.Leads.{leads-begin, leads-more, leads-end}
-use Rattle.relr_table.proofs.Leading.{contained-refused}
+use Rattle.relr_table.proofs.Leading.{contained-refused, contained-every}
 use Rattle.relr_table.proofs.PlaceNeeds.{one-mark}
-use Rattle.relr_table.proofs.Passed.{fit-append, fit-one, fit-not, standing-begin, standing-end, Word, word-refused, word-marks, word-one, word-done, step-fits, step-less}
+use Rattle.relr_table.proofs.Passed.{fit-append, fit-one, fit-not, standing-begin, standing-end, Word, word-refused, word-marks, word-one, word-done, step-fits, step-less, space-most}
 use Rattle.relr_table.proofs.Marked.{marked-most}
 use Rattle.relr_table.proofs.SetBits.{Next, Left, left-begin, left-end, left-head, left-next, left-more, next-zeros, zeros-fit, zeros-far, zeros-less}
 
@@ -65,10 +65,10 @@ pub ruleset counting = (grow-in, grow-here, grow-before, survey-all, survey-not,
 pub scan-begin : {k : Class} {s : List ℕ} (low high : ℕ) → Whole k s → Scanned k s low high 0 Nowhere 0 none
 scan-begin {k} {s} low high h = record { list = []; standing = standing-begin k s h; counted = refl; lead = leads-begin (between low high); few = omega arith }
 
-pub scan-from : {k : Class} {s : List ℕ} {low high : ℕ} {from : Passed} → Begun k s low high from → ScannedTo k s low high from none
+pub scan-from : {k : Class} {s : List ℕ} {low high at count : ℕ} {p : Place} → Begun k s low high at p count → Scanned k s low high at p count none
 scan-from b = b .skimmed .on none (scan-begin _ _ (b .whole))
 
-pub scan-whole : {k : Class} {s : List ℕ} {low high : ℕ} {from : Passed} → Begun k s low high from → Whole k s
+pub scan-whole : {k : Class} {s : List ℕ} {low high at count : ℕ} {p : Place} → Begun k s low high at p count → Whole k s
 scan-whole b = b .whole
 
 pub skim-allowed : {k : Class} {s : List ℕ} {low high at count first : ℕ} {p : Place} → Whole k s → Scanned k s low high at p count first
@@ -216,14 +216,17 @@ module _ (k : Class) (s : List ℕ) (low high : ℕ) where
     whole : Whole k s
     whole = record { words = omega arith; few = h }
 
-    pub find-begin : Skimmable k s low high origin
-    find-begin = skim-allowed whole (scan-begin low high whole)
+    pub find-begin : {p : Passed} → p ≡ origin → Skimmable k s low high p
+    find-begin {p} o = subst (Skimmable k s low high) (sym o) (skim-allowed whole (scan-begin low high whole))
 
     pub find-words : {f : Found} → f ≡ foundOf (contained (between low high) (wordsRead k s)) → f ≡ foundOf (contained (between low high) (decode k s))
     find-words q = q ∙ ap (λ (o : Outcome (List ℕ)). foundOf (contained (between low high) o)) (sym (decode-whole k s whole))
 
-    module _ {q : Passed} (p : Skims k s low high origin q) where
-      pub find-rest : Begun k s low high q
+    module _ {b q : Passed} (o : b ≡ origin) (u : Skims k s low high b q) where
+      p : Skims k s low high origin q
+      p = subst (λ (b : Passed). Skims k s low high b q) o u
+
+      pub find-rest : Begun k s low high (q .at) (q .place) (q .count)
       find-rest = record { whole = whole; skimmed = p }
 
       pub find-all : length s ≤ q .at → Count (q .count) ≡ foundOf (contained (between low high) (decode k s))
@@ -232,3 +235,17 @@ module _ (k : Class) (s : List ℕ) (low high : ℕ) where
           find-words (scan-end b p whole (survey-all (omega (arith, scan-small b p whole))) l)
 
 pub ruleset finding = (find-long, find-part, find-begin, find-words, find-rest, find-all, needs)
+
+-- ---- the same between the ends of the space: r is its last offset, and an end past it holds no offset back
+module _ (k : Class) (r : ℕ) (h : r + bytesOf k ≡ spaceOf k) where
+  pub count-high : Fits w64 (r + 1)
+  count-high = record { fits = omega (arith, space-most k, bytes-least k) }
+
+  module _ (s : List ℕ) {f : Found} where
+    pub count-all : f ≡ foundOf (contained (between 0 (r + 1)) (decode k s)) → f ≡ foundOf (decode k s)
+    count-all e =
+        let all : contained (between 0 (r + 1)) (decode k s) ≡ decode k s =
+        contained-space k s (between 0 (r + 1)) (λ x. true) (λ x l. rw (le-leb 0 x (omega arith)) (lt-ltb x (r + 1) (omega arith))) ∙ contained-every (decode k s) in
+        e ∙ ap foundOf all
+
+pub ruleset counts = (count-high, count-all, find-long, find-part, find-begin, find-words, find-rest, find-all, needs)

@@ -5,7 +5,7 @@ ghost use lib.ListN.{length};
 ghost use Rattle.relr_table.specs.Words.{marked};
 ghost use Rattle.relr_table.specs.Table.{spaceOf};
 ghost use Rattle.relr_table.specs.Inner.{flagged, between};
-ghost use Rattle.relr_walk.specs.Inner.{Top, Fence, Steps, Skimmable, Skims};
+ghost use Rattle.relr_walk.specs.Inner.{Top, Fence, Steps, Skimmable, Skims, origin};
 use relr_table::place;
 use word::Class;
 
@@ -94,6 +94,17 @@ pub struct Passed {
     pub at: usize,
     pub place: u64,
     pub count: u64,
+}
+
+// Before the first word.
+pub fn begin() -> Passed
+    ensures { λ r. ⌜ r ≡ origin ⌝ }
+{
+    Passed {
+        at: 0,
+        place: place::NOWHERE,
+        count: 0,
+    }
 }
 
 // Passes the words from here on that lie between the two ends: a comparison with each end for a word, none for a bit.
