@@ -229,7 +229,8 @@ struct reloc_answer reloc_relr_write(uint32_t class_, const uint64_t *offsets, s
  * and start + image_len may pass 2^64: nothing wraps, and a table of no offsets is
  * accepted with every start.
  *
- * Changes the words at those offsets. count: additions made.
+ * Changes the words at those offsets; other words of the image may be written with
+ * the value that they have. count: additions made.
  *
  * Refuses: CLASS, BASE, LIMIT, MISSING (not whole words), { ORDER, SPACE },
  * OUTSIDE. OUTSIDE: a word does not lie inside the image; place is the index of the

@@ -45,8 +45,8 @@ fn fill_run(k: Class, column: &mut [u64], at: usize, anchor: u64) -> usize
     i
 }
 
-// The same where a window more than there is to put fits: each location is put at the index, which moves on where its bit is set, so that no
-// branch hangs on a bit.
+// The same in a column that is filled to the index `count` in all, where a whole window lies before that. Each location is put at the index, which
+// moves on where its bit is set, so that no branch hangs on a bit; what a clear one leaves is overwritten later.
 fn fill_window(
     k: Class,
     column: &mut [u64],
@@ -69,7 +69,7 @@ fn fill_window(
     i
 }
 
-// Whichever is fastest. Of a column that is filled to an index in all, what lies between may be anything.
+// Whichever is fastest. What lies between the index after the locations and `count` may be anything.
 fn fill_bitmap(
     k: Class,
     column: &mut [u64],
