@@ -21,8 +21,11 @@ impl Build<'_> {
         relr_bytes(class, &words)
     }
 
-    /// A bitmap of one of seven shapes.
+    /// A bitmap of one of seven shapes; among the edges also with few bits clear.
     fn bitmap(&mut self, class: u32, shape: u64) -> u64 {
+        if self.edge(4) {
+            return self.rng.draw() | self.rng.draw() | 1;
+        }
         let bits = match shape {
             0 => 0,
             1 => self.rng.draw() & self.rng.draw() & self.rng.draw(),
