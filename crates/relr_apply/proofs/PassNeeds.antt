@@ -15,7 +15,7 @@ use lib.Pow.{shr-shr}
 use mir.Syntax.{w64}
 use mir.Val.{Fits}
 use borrow.Author.Needs.{needs}
-use borrow.Author.Tests.{lt-ltb, le-ltb, le-leb, lt-leb}
+use borrow.Author.Tests.{lt-ltb, le-ltb, le-leb, lt-leb, leb-true}
 use Rattle.answer.specs.declared.Refusal.{Refusal}
 use Rattle.answer.specs.declared.Refusal.the-variants as why
 use Rattle.answer.specs.declared.Answer.{Answer}
@@ -256,10 +256,16 @@ pub ruleset sweepings = (sweeping-begin, sweeping-long, sweeping-end, sweeping-a
 -- how many windows fit
 module _ (k : Class) (size : ℕ) {d : ℕ} (de : d ≡ windowOf k * bytesOf k) where
   pub windows-none : size < d → Windows k size 0
-  windows-none h = record { fits = λ x l. absurd (omega arith) }
+  windows-none h = record { are = λ x. le-ltb x 0 (omega arith) ∙ sym (lt-leb (x + windowOf k * bytesOf k) size (omega arith)) }
 
   pub windows-some : d ≤ size → Windows k size (size - d + 1)
-  windows-some h = record { fits = λ x l. omega arith }
+  windows-some h =
+      record {
+        are = λ x. elim (decLe (x + windowOf k * bytesOf k) size) [
+          | yes l ↦ lt-ltb x (size - d + 1) (omega arith) ∙ sym (le-leb (x + windowOf k * bytesOf k) size l)
+          | no l ↦ le-ltb x (size - d + 1) (omega arith) ∙ sym (lt-leb (x + windowOf k * bytesOf k) size (omega arith))
+        ];
+      }
 
   pub windows-fit : size < 2 ^ 64 → Fits w64 (size - d + 1)
   windows-fit h = record { fits = omega (arith, some) }
@@ -281,7 +287,7 @@ module _ {k : Class} {start room : ℕ} {image : List ℕ} {anchor set : ℕ} (s
   bitmap-spacious {r} small e l =
       record {
         patchable = s .patchable;
-        room = λ d h f. let same : d ≡ r = omega arith in rw same (s .windows .fits r l);
+        room = λ d h f. let same : d ≡ r = omega arith in rw same (leb-true (r + windowOf k * bytesOf k) (length image) (sym (s .windows .are r) ∙ lt-ltb r room l));
       }
 
 module _ (k : Class) {set r : ℕ} (e : set ≡ r) (g : r ≡ full k) where
@@ -351,7 +357,7 @@ module _ {k : Class} {s old : List ℕ} {base start : ℕ} (f : Targeted k s sta
         working-marks w =
             record {
               patchable = record { in-window = word .in-window; in-space = word .among .fits; in-image = in-image word };
-              windows = record { fits = rw working-long (w .fits) };
+              windows = record { are = rw working-long (w .are) };
             }
 
         more-of : {new : List ℕ} {d b : ℕ} → d ≡ windowOf k * bytesOf k → b ≡ (behind + d) % 2 ^ 64

@@ -82,10 +82,11 @@ fn windows(k: Class, size: usize) -> u64
     ensures { λ r. ⌜ Windows k size r ⌝ }
 {
     let n = size as u64;
-    if n < k.stride() {
+    let stride = k.stride();
+    if n < stride {
         return 0;
     }
-    n - k.stride() + 1
+    n - stride + 1
 }
 
 // Whichever is fastest. (Bits that are all set are many.)

@@ -20,7 +20,7 @@ use Rattle.answer.specs.Outcome.{foundOf, filled, itself}
 use Rattle.word.specs.declared.Class.{Class}
 use Rattle.word.specs.Class.{bytesOf, windowOf}
 use Rattle.word.specs.Word.{wordAt}
-use Rattle.word.specs.Class.Laws.{bytes-least, bytes-most}
+use Rattle.word.specs.Class.Laws.{bytes-most}
 use Rattle.relr_table.specs.Inner.{marksOf, full}
 use Rattle.relr_read.specs.Inner.{Markable, Bounded, Ample, Laid, Fillable, Filled}
 use Rattle.relr_table.proofs.PlaceNeeds.{one-mark}
@@ -254,7 +254,7 @@ module _ {k : Class} {n : ℕ} {old : List ℕ} {at anchor set : ℕ} (b : Bound
   pub bitmap-sum : {w : ℕ} → w ≡ windowOf k → length old * 8 < 2 ^ 63 → Fits w64 (at + w)
   bitmap-sum we h = record { fits = omega (arith, b .end, b .room, bytes-most k) }
 
-  pub bitmap-ample : {w : ℕ} → w ≡ windowOf k → at + w < n → Ample k n old at anchor set
+  pub bitmap-ample : {w : ℕ} → w ≡ windowOf k → at + w ≤ n → Ample k n old at anchor set
   bitmap-ample we h = record { bounded = b; ample = omega arith }
 
   module _ {r : ℕ} (e : set ≡ r) (g : r ≡ full k) where

@@ -1,6 +1,4 @@
 // Reading a table into a column of offsets.
-ghost use Prim.Native.Nat.{_+_};
-ghost use mathlib.Core.Path.{_≡_};
 ghost use Rattle.answer.specs.Outcome.{Gives};
 ghost use Rattle.answer.specs.Written.{Written};
 ghost use Rattle.relr_table.specs.Table.{decode};
@@ -85,7 +83,7 @@ fn fill_bitmap(
         return fill_run(k, column, at, anchor);
     }
     if place::crowded(k, set) {
-        if at + (k.window() as usize) < count {
+        if at + (k.window() as usize) <= count {
             return fill_window(k, column, count, at, anchor, set);
         }
     }

@@ -11,12 +11,6 @@ stride-requires c κs = search fittings
 returns : tie.Need-returns
 returns c = search fittings
 
-stride-requires-2 : tie.Need-stride-requires-2
-stride-requires-2 c κs = search fittings
-
-sub-result : tie.Need-sub-result
-sub-result c = search fittings
-
 add-result : tie.Need-add-result
 add-result c = search fittings
 
@@ -24,5 +18,4 @@ returns-2 : tie.Need-returns-2
 returns-2 c = search fittings
 
 pub windows-spec : {M : Type 1} → statement M
-windows-spec =
-    tie.close (tie.spec stride-requires returns stride-requires-2 sub-result add-result returns-2)
+windows-spec = tie.close (tie.spec stride-requires returns add-result returns-2)
