@@ -1,15 +1,15 @@
 /*
  * The calls as plain loops: one pass that trusts its input, without any check
  * of lengths, widths, order, space or room. A read answers records, a write
- * bytes, an apply additions. The words of memory must be little-endian, as those
- * of the tables are.
+ * bytes, an apply additions. The words of memory must be little-endian; those of
+ * RELR tables and images have the high byte first if `big`.
  */
 #include <stdbool.h>
 #include <stddef.h>
 #include <stdint.h>
 #include <string.h>
 
-/* A body that is compiled for each class on its own. */
+/* A body that is compiled for each class, and byte order, on its own. */
 #define BODY static inline __attribute__((always_inline))
 
 /* A call of a body with its class as a constant. */
@@ -20,30 +20,38 @@ BODY uint64_t window_of(uint32_t class_) {
     return 8 * class_ - 1;
 }
 
+/* A word from its byte order to that of memory, or back. */
+BODY uint64_t ordered(uint32_t class_, bool big, uint64_t word) {
+    if (!big)
+        return word;
+    return class_ == 4 ? __builtin_bswap32((uint32_t)word) : __builtin_bswap64(word);
+}
+
 /* The word at a place. */
-BODY uint64_t load(uint32_t class_, const uint8_t *at) {
+BODY uint64_t load(uint32_t class_, bool big, const uint8_t *at) {
     uint64_t word = 0;
     memcpy(&word, at, class_);
-    return word;
+    return ordered(class_, big, word);
 }
 
 /* Puts a word at a place. */
-BODY void store(uint32_t class_, uint8_t *at, uint64_t word) {
+BODY void store(uint32_t class_, bool big, uint8_t *at, uint64_t word) {
+    word = ordered(class_, big, word);
     memcpy(at, &word, class_);
 }
 
 /* Adds the base to the word at a place. */
-BODY void add(uint32_t class_, uint8_t *at, uint64_t base) {
-    store(class_, at, load(class_, at) + base);
+BODY void add(uint32_t class_, bool big, uint8_t *at, uint64_t base) {
+    store(class_, big, at, load(class_, big, at) + base);
 }
 
 /* Reads RELR: the loaders' loop, bit by bit or by trailing zeros. */
-BODY size_t relr_read(uint32_t class_, bool zeros, const uint8_t *table, size_t length,
+BODY size_t relr_read(uint32_t class_, bool big, bool zeros, const uint8_t *table, size_t length,
                       uint64_t *offsets) {
     uint64_t *next = offsets;
     uint64_t start = 0;
     for (const uint8_t *at = table; at != table + length; at += class_) {
-        uint64_t word = load(class_, at);
+        uint64_t word = load(class_, big, at);
         if ((word & 1) == 0) {
             *next++ = word;
             start = word + class_;
@@ -60,26 +68,26 @@ BODY size_t relr_read(uint32_t class_, bool zeros, const uint8_t *table, size_t 
 }
 
 /* Applies RELR: the same loop, with an addition at each offset less the start. */
-BODY size_t relr_apply(uint32_t class_, bool zeros, const uint8_t *table, size_t length,
+BODY size_t relr_apply(uint32_t class_, bool big, bool zeros, const uint8_t *table, size_t length,
                        uint64_t base, uint64_t start, uint8_t *image) {
     size_t count = 0;
     uint8_t *where = image;
     for (const uint8_t *at = table; at != table + length; at += class_) {
-        uint64_t word = load(class_, at);
+        uint64_t word = load(class_, big, at);
         if ((word & 1) == 0) {
             where = image + (word - start);
-            add(class_, where, base);
+            add(class_, big, where, base);
             where += class_;
             count++;
             continue;
         }
         for (uint8_t *place = where; !zeros && (word >>= 1) != 0; place += class_)
             if (word & 1) {
-                add(class_, place, base);
+                add(class_, big, place, base);
                 count++;
             }
         for (word >>= 1; zeros && word != 0; word &= word - 1) {
-            add(class_, where + (uint64_t)__builtin_ctzll(word) * class_, base);
+            add(class_, big, where + (uint64_t)__builtin_ctzll(word) * class_, base);
             count++;
         }
         where += window_of(class_) * class_;
@@ -88,11 +96,12 @@ BODY size_t relr_apply(uint32_t class_, bool zeros, const uint8_t *table, size_t
 }
 
 /* Writes RELR: the linkers' loop. */
-BODY size_t relr_write(uint32_t class_, const uint64_t *offsets, size_t count, uint8_t *table) {
+BODY size_t relr_write(uint32_t class_, bool big, const uint64_t *offsets, size_t count,
+                       uint8_t *table) {
     uint8_t *at = table;
     for (size_t i = 0; i < count;) {
         uint64_t start = offsets[i] + class_;
-        store(class_, at, offsets[i++]);
+        store(class_, big, at, offsets[i++]);
         at += class_;
         for (;;) {
             uint64_t bitmap = 0;
@@ -104,7 +113,7 @@ BODY size_t relr_write(uint32_t class_, const uint64_t *offsets, size_t count, u
             }
             if (bitmap == 0)
                 break;
-            store(class_, at, bitmap << 1 | 1);
+            store(class_, big, at, bitmap << 1 | 1);
             at += class_;
             start += window_of(class_) * class_;
         }
@@ -211,33 +220,45 @@ BODY size_t relleb_write(uint32_t class_, const uint64_t *offsets, const uint32_
     return (size_t)(at - table);
 }
 
-/* Reads RELR, for either class. */
-size_t plain_relr_read(uint32_t class_, const uint8_t *table, size_t length, uint64_t *offsets) {
-    return BY_CLASS(relr_read, false, table, length, offsets);
-}
+/* The calls of RELR, for either class. */
+struct relr {
+    size_t (*read)(uint32_t class_, const uint8_t *table, size_t length, uint64_t *offsets);
+    size_t (*write)(uint32_t class_, const uint64_t *offsets, size_t count, uint8_t *table);
+    size_t (*apply)(uint32_t class_, const uint8_t *table, size_t length, uint64_t base,
+                    uint64_t start, uint8_t *image);
+};
 
-/* The same by trailing zeros. */
-size_t plain_relr_read_by_zeros(uint32_t class_, const uint8_t *table, size_t length,
-                                uint64_t *offsets) {
-    return BY_CLASS(relr_read, true, table, length, offsets);
-}
+/*
+ * Makes these calls for one byte order and one way through bitmaps. Each has a
+ * function of its own, which saves no registers that only another needs.
+ */
+#define RELR(name, big, zeros)                                                                    \
+    static size_t name##_read(uint32_t class_, const uint8_t *table, size_t length,               \
+                              uint64_t *offsets) {                                                \
+        return BY_CLASS(relr_read, big, zeros, table, length, offsets);                           \
+    }                                                                                             \
+    static size_t name##_write(uint32_t class_, const uint64_t *offsets, size_t count,            \
+                               uint8_t *table) {                                                  \
+        return BY_CLASS(relr_write, big, offsets, count, table);                                  \
+    }                                                                                             \
+    static size_t name##_apply(uint32_t class_, const uint8_t *table, size_t length,              \
+                               uint64_t base, uint64_t start, uint8_t *image) {                   \
+        return BY_CLASS(relr_apply, big, zeros, table, length, base, start, image);               \
+    }
 
-/* Writes RELR, for either class. */
-size_t plain_relr_write(uint32_t class_, const uint64_t *offsets, size_t count, uint8_t *table) {
-    return BY_CLASS(relr_write, offsets, count, table);
-}
+RELR(little_by_bits, false, false)
+RELR(little_by_zeros, false, true)
+RELR(big_by_bits, true, false)
+RELR(big_by_zeros, true, true)
 
-/* Applies RELR, for either class. */
-size_t plain_relr_apply(uint32_t class_, const uint8_t *table, size_t length, uint64_t base,
-                        uint64_t start, uint8_t *image) {
-    return BY_CLASS(relr_apply, false, table, length, base, start, image);
-}
+/* What RELR has made. */
+#define CALLS(name) {name##_read, name##_write, name##_apply}
 
-/* The same by trailing zeros. */
-size_t plain_relr_apply_by_zeros(uint32_t class_, const uint8_t *table, size_t length,
-                                 uint64_t base, uint64_t start, uint8_t *image) {
-    return BY_CLASS(relr_apply, true, table, length, base, start, image);
-}
+/* The calls by whether words are big-endian, and by whether the way is by trailing zeros. */
+const struct relr plain_relr[2][2] = {
+    {CALLS(little_by_bits), CALLS(little_by_zeros)},
+    {CALLS(big_by_bits), CALLS(big_by_zeros)},
+};
 
 /* Reads APR1. */
 size_t plain_apr1_read(const uint8_t *table, uint64_t *offsets) {

@@ -2,7 +2,8 @@
  * names, keeps the list of them, and shows that a refused table leaves the image
  * as it was. The module is linked at 0x1000, so the table's offsets count from
  * there, and the image's first byte is the one at 0x1000. It has no heap: what a
- * call needs is compared with what there is. */
+ * call needs is compared with what there is. At last it patches the image of a
+ * controller that stores words high byte first. */
 #include "reloc.h"
 
 #include <inttypes.h>
@@ -30,6 +31,11 @@ static const uint64_t start = 0x1000;
 
 /* The offsets of the words that were patched. */
 static uint64_t kept[KEPT];
+
+/* The big-endian controller's image, 0x1234 and 0xFF8000 in words of four bytes,
+ * and its table: the address 0x1000, then a bitmap of the word after it, 0x3. */
+static uint8_t big_image[] = {0x00, 0x00, 0x12, 0x34, 0x00, 0xFF, 0x80, 0x00};
+static const uint8_t big_table[] = {0, 0, 0x10, 0, 0, 0, 0, 3};
 
 /* The word at an address of the image. */
 static uint64_t word(uint64_t address)
@@ -62,7 +68,7 @@ static int refused(const char *what, struct reloc_answer answer)
 /* Keeps the table's list where there is room for it. */
 static int keep(void)
 {
-    struct reloc_answer need = reloc_relr_read(CLASS, table, sizeof table, NULL, 0);
+    struct reloc_answer need = reloc_relr_read(CLASS, false, table, sizeof table, NULL, 0);
     if (need.number != RELOC_OK && need.number != RELOC_REFUSED_ROOM) {
         return refused("the table", need);
     }
@@ -71,7 +77,7 @@ static int keep(void)
         return 1;
     }
     struct reloc_answer answer =
-        reloc_relr_read(CLASS, table, sizeof table, kept, (size_t)need.count);
+        reloc_relr_read(CLASS, false, table, sizeof table, kept, (size_t)need.count);
     if (answer.number != RELOC_OK) {
         return refused("the list", answer);
     }
@@ -90,13 +96,40 @@ static int outside(const char *what, uint64_t first, size_t length, uint64_t pla
     uint8_t before[sizeof image];
     memcpy(before, image, sizeof image);
     struct reloc_answer answer =
-        reloc_relr_apply(CLASS, table, sizeof table, base, first, image, length);
+        reloc_relr_apply(CLASS, false, table, sizeof table, base, first, image, length);
     if (answer.number != RELOC_REFUSED_OUTSIDE || answer.place != place || answer.count != 0 ||
         memcmp(image, before, sizeof image) != 0) {
         printf("%s: not refused as outside, or the image changed\n", what);
         return 1;
     }
     refused(what, answer);
+    return 0;
+}
+
+static void print_big(const char *when)
+{
+    printf("big-endian, %s:", when);
+    for (size_t k = 0; k < sizeof big_image; k++) {
+        printf(" %02x", big_image[k]);
+    }
+    printf("\n");
+}
+
+/* Patches the big-endian image: 0x11234, 0x1008000. */
+static int patch_big(void)
+{
+    static const uint8_t patched[] = {0x00, 0x01, 0x12, 0x34, 0x01, 0x00, 0x80, 0x00};
+    print_big("before");
+    struct reloc_answer answer = reloc_relr_apply(4, true, big_table, sizeof big_table, base, start,
+                                                  big_image, sizeof big_image);
+    if (answer.number != RELOC_OK) {
+        return refused("the big-endian table", answer);
+    }
+    print_big("after ");
+    if (memcmp(big_image, patched, sizeof patched) != 0) {
+        printf("patched otherwise than the big-endian table says\n");
+        return 1;
+    }
     return 0;
 }
 
@@ -117,7 +150,7 @@ int main(void)
 
     print("before");
     struct reloc_answer answer =
-        reloc_relr_apply(CLASS, table, sizeof table, base, start, image, sizeof image);
+        reloc_relr_apply(CLASS, false, table, sizeof table, base, start, image, sizeof image);
     if (answer.number != RELOC_OK) {
         return refused("the table", answer);
     }
@@ -128,5 +161,8 @@ int main(void)
         return 1;
     }
     printf("%" PRIu64 " words patched\n", answer.count);
-    return keep();
+    if (keep() != 0) {
+        return 1;
+    }
+    return patch_big();
 }

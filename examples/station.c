@@ -60,14 +60,15 @@ static void compare(const char *kind, size_t records, uint8_t *written, size_t b
     free(written);
 }
 
-static void relr(const char *kind, uint32_t class_, const uint8_t *table, size_t table_len)
+static void relr(const char *kind, uint32_t class_, bool big, const uint8_t *table,
+                 size_t table_len)
 {
-    size_t n = need(kind, reloc_relr_read(class_, table, table_len, NULL, 0));
+    size_t n = need(kind, reloc_relr_read(class_, big, table, table_len, NULL, 0));
     uint64_t *offsets = (uint64_t *)buffer(n, sizeof *offsets);
-    done(kind, reloc_relr_read(class_, table, table_len, offsets, n), n);
-    size_t bytes = need(kind, reloc_relr_write(class_, offsets, n, NULL, 0));
+    done(kind, reloc_relr_read(class_, big, table, table_len, offsets, n), n);
+    size_t bytes = need(kind, reloc_relr_write(class_, big, offsets, n, NULL, 0));
     uint8_t *written = (uint8_t *)buffer(bytes, 1);
-    done(kind, reloc_relr_write(class_, offsets, n, written, bytes), bytes);
+    done(kind, reloc_relr_write(class_, big, offsets, n, written, bytes), bytes);
     compare(kind, n, written, bytes, table, table_len);
     free(offsets);
 }
@@ -124,6 +125,8 @@ int main(void)
 {
     /* 0x100, 0x17C: an address and a bitmap. */
     static const uint8_t relr32[] = {0x00, 0x01, 0x00, 0x00, 0x01, 0x00, 0x00, 0x80};
+    /* The same, high byte first. */
+    static const uint8_t relr32_big[] = {0x00, 0x00, 0x01, 0x00, 0x80, 0x00, 0x00, 0x01};
     /* 0x2000, 0x2008, 0x2010, 0x2018: an address and a bitmap. */
     static const uint8_t relr64[] = {0x00, 0x20, 0, 0, 0, 0, 0, 0, 0x0F, 0, 0, 0, 0, 0, 0, 0};
     /* 0x1000, 0x1004, 0x1008, 0x1010: gaps 4, 4, 8. */
@@ -141,9 +144,10 @@ int main(void)
         return 1;
     }
     printf("reloc " RELOC_VERSION_TEXT "\n");
-    relr("relr32", 4, relr32, sizeof relr32);
-    relr("relr64", 8, relr64, sizeof relr64);
-    relr("relr64, empty", 8, NULL, 0);
+    relr("relr32", 4, false, relr32, sizeof relr32);
+    relr("relr32, big-endian", 4, true, relr32_big, sizeof relr32_big);
+    relr("relr64", 8, false, relr64, sizeof relr64);
+    relr("relr64, empty", 8, false, NULL, 0);
     apr1("apr1", runs, sizeof runs);
     apa1("apa1", pairs, sizeof pairs);
     apa1("apa1, empty", no_pairs, sizeof no_pairs);

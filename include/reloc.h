@@ -3,21 +3,25 @@
  *
  * Calls over four kinds of table:
  *
- *   RELR    offsets of words, as addresses and bitmaps   class 4 or 8
+ *   RELR    offsets of words, as addresses and bitmaps   class 4 or 8, byte order
  *   APR1    32-bit offsets, as runs of equal gaps        no class
  *   APA1    64-bit offsets with addends                  no class
  *   RELLEB  offset, type, symbol index and addend        class 4 or 8
  *
  * The class (argument class_, for C++'s sake) is the size of a word in bytes; W,
- * the word's width, is 32 or 64 bits. Words are little-endian.
+ * the word's width, is 32 or 64 bits. The byte order (argument big) is that of
+ * RELR's words, in the table and in the image alike: false is low byte first
+ * (little-endian), true is high byte first (big-endian). Both are accepted, so no
+ * refusal speaks of it. The other kinds hold no words, only LEB128 numbers, and
+ * take no byte order.
  *
  * A buffer is passed as a pointer and a count of elements: bytes for a table or
  * an image, entries for a column. A buffer reached through a pointer to const is
  * only read. The entries of a record stand at one index of each column; columns
  * of one call have one length.
  *
- * What every call promises, whatever the class, the base, the start and the
- * contents and lengths of its buffers
+ * What every call promises, whatever the class, the byte order, the base, the
+ * start and the contents and lengths of its buffers
  *
  *   It returns, with an answer (see struct reloc_answer). On success it changes
  *   what its comment says and leaves the rest of every buffer as it was. On a
@@ -57,7 +61,7 @@
  *   where it needs none (an empty list that is read, or written as RELR), RELOC_OK
  *   with 0. So count is the need in both:
  *
- *     struct reloc_answer need = reloc_relr_write(8, offsets, n, NULL, 0);
+ *     struct reloc_answer need = reloc_relr_write(8, false, offsets, n, NULL, 0);
  *     if (need.number != RELOC_OK && need.number != RELOC_REFUSED_ROOM)
  *         return need.number;          refused, whatever the room
  *     size_t room = (size_t)need.count;
@@ -69,6 +73,7 @@
 #ifndef RELOC_H
 #define RELOC_H
 
+#include <stdbool.h>
 #include <stddef.h>
 #include <stdint.h>
 
@@ -94,8 +99,8 @@ extern "C" {
  *
  *     if (reloc_version() != RELOC_VERSION) the header is not the library's
  */
-#define RELOC_VERSION 5001u
-#define RELOC_VERSION_TEXT "0.5.1"
+#define RELOC_VERSION 6000u
+#define RELOC_VERSION_TEXT "0.6.0"
 
 /* The version of the library, as RELOC_VERSION. */
 RELOC_NODISCARD
@@ -188,7 +193,7 @@ static inline const char *reloc_name(uint32_t number)
 }
 
 /*
- * Reads a RELR table into offsets.
+ * Reads a RELR table, whose words have the byte order big, into offsets.
  *
  * Changes the first count entries of offsets. count: offsets read. Offsets may
  * repeat or go back. An empty table is the empty list.
@@ -197,26 +202,29 @@ static inline const char *reloc_name(uint32_t number)
  * SPACE: offset + class is above 2^W.
  */
 RELOC_NODISCARD
-struct reloc_answer reloc_relr_read(uint32_t class_, const uint8_t *table, size_t table_len,
-                                    uint64_t *offsets, size_t offsets_len);
+struct reloc_answer reloc_relr_read(uint32_t class_, bool big, const uint8_t *table,
+                                    size_t table_len, uint64_t *offsets, size_t offsets_len);
 
 /*
- * Writes a strictly increasing list of even offsets as a RELR table.
+ * Writes a strictly increasing list of even offsets as a RELR table, whose words
+ * have the byte order big.
  *
  * Changes the first count bytes of table. count: bytes written, the fewest of
- * any table that reloc_relr_read accepts for the class and reads as this list.
+ * any table that reloc_relr_read accepts for the class and the byte order and
+ * reads as this list; they are as many in both byte orders.
  *
  * Refuses: CLASS, LIMIT, { ODD, SPACE, ORDER, in this order at one index }, ROOM.
  * SPACE: offset + class is above 2^W. ROOM: table_len is below that fewest number
  * of bytes; count is then that number.
  */
 RELOC_NODISCARD
-struct reloc_answer reloc_relr_write(uint32_t class_, const uint64_t *offsets, size_t offsets_len,
-                                     uint8_t *table, size_t table_len);
+struct reloc_answer reloc_relr_write(uint32_t class_, bool big, const uint64_t *offsets,
+                                     size_t offsets_len, uint8_t *table, size_t table_len);
 
 /*
  * Applies a RELR table: adds base to the image's word at each offset of the
- * table, in order, wrapping at W bits.
+ * table, in order, wrapping at W bits. The byte order big is that of the table's
+ * words and of the image's.
  *
  * start is the address of the image's first byte, as the table counts addresses:
  * the one that the module's first segment is linked at, such as 0x1000. An offset
@@ -238,9 +246,9 @@ struct reloc_answer reloc_relr_write(uint32_t class_, const uint64_t *offsets, s
  * image before any word is changed.
  */
 RELOC_NODISCARD
-struct reloc_answer reloc_relr_apply(uint32_t class_, const uint8_t *table, size_t table_len,
-                                     uint64_t base, uint64_t start, uint8_t *image,
-                                     size_t image_len);
+struct reloc_answer reloc_relr_apply(uint32_t class_, bool big, const uint8_t *table,
+                                     size_t table_len, uint64_t base, uint64_t start,
+                                     uint8_t *image, size_t image_len);
 
 /*
  * Reads an APR1 table: the identifier, N, the first offset A, then N pairs C, D,

@@ -1,6 +1,6 @@
 /* Holds include/reloc.h to the library: its version, each number with its name,
- * and the limits. A number is held by a call that must be refused with it, a
- * limit by calls at it and one over it. */
+ * the byte order, and the limits. A number is held by a call that must be refused
+ * with it, a limit by calls at it and one over it. */
 #include "reloc.h"
 
 #include <inttypes.h>
@@ -48,28 +48,54 @@ static void numbers(void)
     uint64_t offset[1];
     uint8_t image[4] = {0};
 
-    EXPECT(RELOC_OK, reloc_relr_read(8, NULL, 0, NULL, 0));
-    EXPECT(RELOC_REFUSED_CLASS, reloc_relr_read(5, NULL, 0, NULL, 0));
+    EXPECT(RELOC_OK, reloc_relr_read(8, false, NULL, 0, NULL, 0));
+    EXPECT(RELOC_REFUSED_CLASS, reloc_relr_read(5, false, NULL, 0, NULL, 0));
     EXPECT(RELOC_REFUSED_IDENTIFIER, reloc_apr1_read(bitmap, 4, NULL, 0));
-    EXPECT(RELOC_REFUSED_MISSING, reloc_relr_read(8, bitmap, 4, NULL, 0));
+    EXPECT(RELOC_REFUSED_MISSING, reloc_relr_read(8, false, bitmap, 4, NULL, 0));
     EXPECT(RELOC_REFUSED_WIDTH,
            reloc_relleb_read(8, long_count, 10, NULL, 0, NULL, 0, NULL, 0, NULL, 0));
-    EXPECT(RELOC_REFUSED_ORDER, reloc_relr_read(4, bitmap, 4, NULL, 0));
+    EXPECT(RELOC_REFUSED_ORDER, reloc_relr_read(4, false, bitmap, 4, NULL, 0));
     EXPECT(RELOC_REFUSED_ORDER, reloc_apr1_write(falling, 2, NULL, 0));
-    EXPECT(RELOC_REFUSED_SPACE, reloc_relr_read(4, high, 4, NULL, 0));
+    EXPECT(RELOC_REFUSED_SPACE, reloc_relr_read(4, false, high, 4, NULL, 0));
     EXPECT(RELOC_REFUSED_TRAILING,
            reloc_relleb_read(8, word, 8, NULL, 0, NULL, 0, NULL, 0, NULL, 0));
-    EXPECT(RELOC_REFUSED_ROOM, reloc_relr_read(8, word, 8, NULL, 0));
-    EXPECT(RELOC_REFUSED_ODD, reloc_relr_write(8, odd, 1, NULL, 0));
+    EXPECT(RELOC_REFUSED_ROOM, reloc_relr_read(8, false, word, 8, NULL, 0));
+    EXPECT(RELOC_REFUSED_ODD, reloc_relr_write(8, false, odd, 1, NULL, 0));
     EXPECT(RELOC_REFUSED_COLUMNS, reloc_apa1_read(NULL, 0, offset, 1, NULL, 0));
-    EXPECT(RELOC_REFUSED_OUTSIDE, reloc_relr_apply(8, word, 8, 0, 0, image, 4));
-    EXPECT(RELOC_REFUSED_OUTSIDE, reloc_relr_apply(4, word, 4, 0, 1, image, 4));
-    EXPECT(RELOC_OK, reloc_relr_apply(4, word, 4, 0, 0, image, 4));
-    EXPECT(RELOC_OK, reloc_relr_apply(4, NULL, 0, 0, UINT64_MAX, NULL, 0));
+    EXPECT(RELOC_REFUSED_OUTSIDE, reloc_relr_apply(8, false, word, 8, 0, 0, image, 4));
+    EXPECT(RELOC_REFUSED_OUTSIDE, reloc_relr_apply(4, false, word, 4, 0, 1, image, 4));
+    EXPECT(RELOC_OK, reloc_relr_apply(4, false, word, 4, 0, 0, image, 4));
+    EXPECT(RELOC_OK, reloc_relr_apply(4, false, NULL, 0, 0, UINT64_MAX, NULL, 0));
     EXPECT(RELOC_REFUSED_EMPTY, reloc_apr1_write(NULL, 0, NULL, 0));
     EXPECT(RELOC_REFUSED_ADDEND, reloc_relleb_write(4, odd, 1, zero, 1, zero, 1, wide, 1, NULL, 0));
-    EXPECT(RELOC_REFUSED_BASE, reloc_relr_apply(4, NULL, 0, UINT64_C(1) << 32, 0, NULL, 0));
+    EXPECT(RELOC_REFUSED_BASE, reloc_relr_apply(4, false, NULL, 0, UINT64_C(1) << 32, 0, NULL, 0));
     check("a number without a name", strcmp(reloc_name(16), "unknown") == 0);
+}
+
+/* 0x100, 0x17C is this table in the byte order; 1 added to 00 00 00 FF gives these
+ * bytes. */
+static void order(bool big, const uint8_t *table, const uint8_t *carried)
+{
+    static const uint64_t list[] = {0x100, 0x17C};
+    uint8_t written[8], image[4] = {0, 0, 0, 0xFF};
+    uint64_t offsets[2];
+
+    check("written", reloc_relr_write(4, big, list, 2, written, 8).count == 8 &&
+                         memcmp(written, table, 8) == 0);
+    check("read", reloc_relr_read(4, big, table, 8, offsets, 2).count == 2 &&
+                      memcmp(offsets, list, sizeof list) == 0);
+    check("applied", reloc_relr_apply(4, big, table, 4, 1, 0x100, image, 4).count == 1 &&
+                         memcmp(image, carried, 4) == 0);
+    check("the other order", reloc_relr_read(4, !big, table, 8, offsets, 2).count == 2 &&
+                                 offsets[0] == 0x10000 && offsets[1] == 0x1000080);
+}
+
+static void orders(void)
+{
+    static const uint8_t little[] = {0, 1, 0, 0, 1, 0, 0, 0x80}, low_first[] = {1, 0, 0, 0xFF};
+    static const uint8_t big[] = {0, 0, 1, 0, 0x80, 0, 0, 1}, high_first[] = {0, 0, 1, 0};
+    order(false, little, low_first);
+    order(true, big, high_first);
 }
 
 /* A call of some length is refused by the limit exactly where it should be. */
@@ -90,13 +116,15 @@ static void limits(void)
     }
     for (int over = 0; over < 2; over++) {
         size_t m = RELOC_INPUT_LIMIT + (size_t)over, n = RELOC_LIST_LIMIT + (size_t)over;
-        limit("relr_read", reloc_relr_read(8, table, m, NULL, 0), over);
-        limit("relr_apply", reloc_relr_apply(8, table, m, 0, 0, NULL, 0), over);
+        for (int big = 0; big < 2; big++) {
+            limit("relr_read", reloc_relr_read(8, big, table, m, NULL, 0), over);
+            limit("relr_apply", reloc_relr_apply(8, big, table, m, 0, 0, NULL, 0), over);
+            limit("relr_write", reloc_relr_write(8, big, o, n, NULL, 0), over);
+        }
         limit("apr1_read", reloc_apr1_read(table, m, NULL, 0), over);
         limit("apa1_read", reloc_apa1_read(table, m, NULL, 0, NULL, 0), over);
         limit("relleb_read",
               reloc_relleb_read(8, table, m, NULL, 0, NULL, 0, NULL, 0, NULL, 0), over);
-        limit("relr_write", reloc_relr_write(8, o, n, NULL, 0), over);
         limit("apr1_write", reloc_apr1_write(o, n, NULL, 0), over);
         limit("apa1_write", reloc_apa1_write(o, n, a, n, NULL, 0), over);
         limit("relleb_write", reloc_relleb_write(8, o, n, t, n, t, n, a, n, NULL, 0), over);
@@ -112,6 +140,7 @@ int main(void)
 {
     version();
     numbers();
+    orders();
     limits();
     return wrong;
 }

@@ -1,15 +1,15 @@
 //! Measures every row and prints the figures as Markdown.
 
 use bench::limits;
-use bench::measure::{Times, measured};
+use bench::measure::{Figures, measured};
 use bench::programs::WAYS;
 use bench::rows::{self, SIZES};
 
-/// The size of the first table, by its place among a row's sizes; a row of one size has that.
-const FIRST: usize = 2;
+/// The size of the first table; a row of one size has that.
+const FIRST: usize = 1_000_000;
 
 /// A row's name, and what was measured at each of its sizes.
-type Result = (String, Vec<Vec<Times>>);
+type Result = (String, Vec<Figures>);
 
 /// Measures the rows whose names contain the argument, or all.
 fn main() {
@@ -25,16 +25,23 @@ fn main() {
     print_growth(&results);
     println!();
     print_limits(&part);
+    println!();
+    print_orders(&results);
+}
+
+/// What was measured at a size, if the row has it.
+fn at(sizes: &[Figures], records: usize) -> Option<&Figures> {
+    sizes.iter().find(|figures| figures.records == records)
 }
 
 /// The first table: the library's time and its ratios to the other programs.
 fn print_ratios(results: &[Result]) {
-    println!("{} records, but for ten offsets:", SIZES[FIRST]);
+    println!("{FIRST} records, but for ten offsets:");
     println!("the library's best time, and its time over the others'.\n");
     println!("| row | ns per record | over Rust, best | median | over C, best | median |");
     println!("|---|--:|--:|--:|--:|--:|");
     for (name, sizes) in results {
-        let times = sizes.get(FIRST).unwrap_or(&sizes[0]);
+        let times = &at(sizes, FIRST).unwrap_or(&sizes[0]).programs;
         for (way, [rust, c]) in WAYS.iter().zip(times[1..].as_chunks().0) {
             let ours = &times[0];
             let way = if times.len() > 3 { format!(", {way}") } else { String::new() };
@@ -45,15 +52,17 @@ fn print_ratios(results: &[Result]) {
     }
 }
 
-/// The second table: the library's time per record at each size.
+/// The second table: the library's time per record at each size that a row has.
 fn print_growth(results: &[Result]) {
     println!("The library's best time in ns per record, by the number of records.\n");
     println!("| row | {} | last over first |", SIZES.map(|size| size.to_string()).join(" | "));
     println!("|---|{}", "--:|".repeat(SIZES.len() + 1));
     for (name, sizes) in results.iter().filter(|(_, sizes)| sizes.len() > 1) {
-        let best: Vec<f64> = sizes.iter().map(|times| times[0].best).collect();
-        let cells: Vec<String> = best.iter().map(|time| format!("{time:.2}")).collect();
-        println!("| {name} | {} | {:.2} |", cells.join(" | "), best[SIZES.len() - 1] / best[0]);
+        let best = |figures: &Figures| figures.programs[0].best;
+        let cell = |figures| format!("{:.2}", best(figures));
+        let cells = SIZES.map(|records| at(sizes, records).map(cell).unwrap_or_default());
+        let growth = best(&sizes[sizes.len() - 1]) / best(&sizes[0]);
+        println!("| {name} | {} | {growth:.2} |", cells.join(" | "));
     }
 }
 
@@ -70,5 +79,20 @@ fn print_limits(part: &str) {
         let [at_limit, rust_at_limit] = limits::seconds(&row, row.sizes[1]);
         print!("| {} | {ours:.4} | {at_limit:.4} ", row.name);
         println!("| {:.2} | {:.2} |", at_limit / ours, rust_at_limit / rust);
+    }
+}
+
+/// The fourth table: the library's time on big-endian words over its time on little-endian ones.
+fn print_orders(results: &[Result]) {
+    println!("Big-endian over little-endian: the library's best time in ns per record on words of");
+    println!("either order, by turns, and the one over the other.\n");
+    println!("| row | records | little-endian | big-endian | ratio, best | median |");
+    println!("|---|--:|--:|--:|--:|--:|");
+    for (name, sizes) in results {
+        for figures in sizes {
+            let Some([little, big]) = figures.orders.as_deref() else { continue };
+            print!("| {name} | {} | {:.2} | {:.2} ", figures.records, little.best, big.best);
+            println!("| {:.2} | {:.2} |", big.best / little.best, big.median / little.median);
+        }
     }
 }

@@ -1,6 +1,6 @@
 //! The checking and the timing of a row.
 
-use crate::programs::{Program, programs, reference};
+use crate::programs::{Program, library, programs, reference};
 use crate::rows::Row;
 use reference::corpus::case::Case;
 use std::hint::black_box;
@@ -26,46 +26,86 @@ pub struct Times {
     pub median: f64,
 }
 
-/// The case of a row, after every program has been seen to do on it as the reference does.
+/// What was measured of a row of so many records: its programs, the library first; and where words
+/// are big-endian, the library on little-endian and on big-endian ones.
+pub struct Figures {
+    pub records: usize,
+    pub programs: Vec<Times>,
+    pub orders: Option<Vec<Times>>,
+}
+
+/// The case of a row, after every program has been seen to do on it as the reference does; a
+/// big-endian one, also with its table turned.
 pub fn checked(row: &Row, records: usize) -> Case {
-    let case = (row.case)(records);
-    let mut want = case.clone();
-    let answer = reference(&mut want);
-    assert!(answer.is_ok(), "{}: {answer:?}", row.name);
-    for program in programs(case.call) {
-        let mut got = case.clone();
-        assert_eq!(program(&mut got), answer, "{}", row.name);
-        assert!(got == want, "{}: buffers differ", row.name);
+    let mut case = (row.case)(records);
+    check(&row.name, &case);
+    if case.big {
+        turn(&mut case);
+        check(&row.name, &case);
+        turn(&mut case);
     }
     case
 }
 
-/// The times of a row's programs in rounds: each makes its calls once a round, on the same buffers,
-/// in changing order.
-pub fn measured(row: &Row, records: usize) -> Vec<Times> {
+/// Every program does as the reference does, which accepts the case.
+fn check(name: &str, case: &Case) {
+    let mut want = case.clone();
+    let answer = reference(&mut want);
+    assert!(answer.is_ok(), "{name}: {answer:?}");
+    for program in programs(case.call) {
+        let mut got = case.clone();
+        assert_eq!(program(&mut got), answer, "{name}");
+        assert!(got == want, "{name}: buffers differ");
+    }
+}
+
+/// Turns the words of a case's table, in place, to the other byte order. The image stays as it is:
+/// any numbers will do.
+fn turn(case: &mut Case) {
+    case.big = !case.big;
+    case.input.chunks_exact_mut(case.class as usize).for_each(<[u8]>::reverse);
+}
+
+/// Measures a row: its programs by turns, then the byte orders by turns, all on the same buffers.
+pub fn measured(row: &Row, records: usize) -> Figures {
     let mut case = checked(row, records);
     let programs = programs(case.call);
     let calls = (RECORDS / records).max(1);
-    let mut spent = vec![Vec::new(); programs.len()];
+    let times =
+        by_turns(programs.len(), calls * records, |which| timed(programs[which], calls, &mut case));
+    let orders = case.big.then(|| {
+        by_turns(2, calls * records, |which| {
+            if case.big != (which == 1) {
+                turn(&mut case);
+            }
+            timed(library, calls, &mut case)
+        })
+    });
+    Figures { records, programs: times, orders }
+}
+
+/// The times of so many, by turns: each goes through so many records once a round, in changing order.
+fn by_turns(number: usize, records: usize, mut run: impl FnMut(usize) -> Duration) -> Vec<Times> {
+    let mut spent = vec![Vec::new(); number];
     let (begin, mut round) = (Instant::now(), 0);
     while round < WARM_UP + ROUNDS || begin.elapsed() < LEAST {
-        for which in order(round, programs.len()) {
-            let time = timed(programs[which], calls, &mut case);
+        for which in order(round, number) {
+            let time = run(which);
             if round >= WARM_UP {
                 spent[which].push(time);
             }
         }
         round += 1;
     }
-    spent.into_iter().map(|times| summed_up(times, calls * records)).collect()
+    spent.into_iter().map(|times| summed_up(times, records)).collect()
 }
 
-/// The order of a round: each program has each place, and they come in both directions.
-fn order(round: usize, programs: usize) -> impl Iterator<Item = usize> {
-    let back = round / programs % 2 == 1;
-    (0..programs).map(move |index| {
-        let index = if back { programs - 1 - index } else { index };
-        (index + round) % programs
+/// The order of a round: each has each place, and they come in both directions.
+fn order(round: usize, number: usize) -> impl Iterator<Item = usize> {
+    let back = round / number % 2 == 1;
+    (0..number).map(move |index| {
+        let index = if back { number - 1 - index } else { index };
+        (index + round) % number
     })
 }
 

@@ -7,36 +7,34 @@ use reference::corpus::calls::{
 };
 use reference::corpus::case::Case;
 
-// The functions of plain.c.
-unsafe extern "C" {
-    fn plain_relr_read(class: u32, table: *const u8, length: usize, offsets: *mut u64) -> usize;
-
-    fn plain_relr_read_by_zeros(
+/// The calls of RELR for one byte order and one way through bitmaps.
+#[repr(C)]
+struct Relr {
+    read: unsafe extern "C" fn(
         class: u32,
         table: *const u8,
         length: usize,
         offsets: *mut u64,
-    ) -> usize;
-
-    fn plain_relr_write(class: u32, offsets: *const u64, count: usize, table: *mut u8) -> usize;
-
-    fn plain_relr_apply(
+    ) -> usize,
+    write: unsafe extern "C" fn(
+        class: u32,
+        offsets: *const u64,
+        count: usize,
+        table: *mut u8,
+    ) -> usize,
+    apply: unsafe extern "C" fn(
         class: u32,
         table: *const u8,
         length: usize,
         base: u64,
         start: u64,
         image: *mut u8,
-    ) -> usize;
+    ) -> usize,
+}
 
-    fn plain_relr_apply_by_zeros(
-        class: u32,
-        table: *const u8,
-        length: usize,
-        base: u64,
-        start: u64,
-        image: *mut u8,
-    ) -> usize;
+// What plain.c has.
+unsafe extern "C" {
+    static plain_relr: [[Relr; 2]; 2];
 
     fn plain_apr1_read(table: *const u8, offsets: *mut u64) -> usize;
 
@@ -78,16 +76,14 @@ pub unsafe fn run<B: Bits>(case: &mut Case) -> usize {
     let (o, t) = (case.offsets.as_mut_ptr(), case.types.as_mut_ptr());
     let (s, a) = (case.symbols.as_mut_ptr(), case.addends.as_mut_ptr());
     let b = case.bytes.as_mut_ptr();
+    // SAFETY: it is a constant of plain.c.
+    let relr = unsafe { &plain_relr[case.big as usize][B::ZEROS as usize] };
     // SAFETY: an accepted case has every buffer that its call needs, with room; no two overlap.
     unsafe {
         match case.call {
-            RELR_READ if B::ZEROS => plain_relr_read_by_zeros(case.class, i, length, o),
-            RELR_READ => plain_relr_read(case.class, i, length, o),
-            RELR_WRITE => plain_relr_write(case.class, o, count, b),
-            RELR_APPLY if B::ZEROS => {
-                plain_relr_apply_by_zeros(case.class, i, length, case.base, case.start, b)
-            }
-            RELR_APPLY => plain_relr_apply(case.class, i, length, case.base, case.start, b),
+            RELR_READ => (relr.read)(case.class, i, length, o),
+            RELR_WRITE => (relr.write)(case.class, o, count, b),
+            RELR_APPLY => (relr.apply)(case.class, i, length, case.base, case.start, b),
             APR1_READ => plain_apr1_read(i, o),
             APR1_WRITE => plain_apr1_write(o, count, b),
             APA1_READ => plain_apa1_read(i, o, a),

@@ -28,13 +28,14 @@ pub(crate) fn programs(call: u8) -> &'static [Program] {
 macro_rules! call {
     ($case:ident, $module:ident $(, $bits:ty)?) => {{
         let (class, i, b) = ($case.class, &$case.input, &mut $case.bytes);
+        let order = if $case.big { $module::ByteOrder::Big } else { $module::ByteOrder::Little };
         let (o, t) = (&mut $case.offsets, &mut $case.types);
         let (s, a) = (&mut $case.symbols, &mut $case.addends);
         match $case.call {
-            RELR_READ => $module::relr_read$(::<$bits>)?(class, i, o),
-            RELR_WRITE => $module::relr_write(class, o, b),
+            RELR_READ => $module::relr_read$(::<$bits>)?(class, order, i, o),
+            RELR_WRITE => $module::relr_write(class, order, o, b),
             RELR_APPLY => {
-                $module::relr_apply$(::<$bits>)?(class, i, $case.base, $case.start, b)
+                $module::relr_apply$(::<$bits>)?(class, order, i, $case.base, $case.start, b)
             }
             APR1_READ => $module::apr1_read(i, o),
             APR1_WRITE => $module::apr1_write(o, b),

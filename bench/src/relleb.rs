@@ -40,7 +40,7 @@ pub fn relleb_read(
     symbols: &mut [u32],
     addends: &mut [i64],
 ) -> Answer {
-    by_class!(class, read(table, Room { offsets, types, symbols, addends }))
+    by_class!(class, Little, read(table, Room { offsets, types, symbols, addends }))
 }
 
 /// Writes the records of four columns as a table.
@@ -52,7 +52,7 @@ pub fn relleb_write(
     addends: &[i64],
     table: &mut [u8],
 ) -> Answer {
-    by_class!(class, write(List { offsets, types, symbols, addends }, table))
+    by_class!(class, Little, write(List { offsets, types, symbols, addends }, table))
 }
 
 /// Reading, for a class.

@@ -5,33 +5,39 @@ use crate::refusal::{
     Answer, BASE, MISSING, ODD, ORDER, OUTSIDE, SPACE, enough, increasing, readable, refuse,
     writable,
 };
-use crate::word::{Word, by_class};
-use reloc::Refusal;
+use crate::word::{Word, by_word};
+use reloc::{ByteOrder, Refusal};
 use std::marker::PhantomData;
 
 /// Reads the offsets of a table into a column.
-pub fn relr_read<B: Bits>(class: u32, table: &[u8], offsets: &mut [u64]) -> Answer {
-    by_class!(class, read<B>(table, offsets))
+pub fn relr_read<B: Bits>(
+    class: u32,
+    order: ByteOrder,
+    table: &[u8],
+    offsets: &mut [u64],
+) -> Answer {
+    by_word!(class, order, read<B>(table, offsets))
 }
 
 /// Writes the least table for a list of offsets.
-pub fn relr_write(class: u32, offsets: &[u64], table: &mut [u8]) -> Answer {
-    by_class!(class, write(offsets, table))
+pub fn relr_write(class: u32, order: ByteOrder, offsets: &[u64], table: &mut [u8]) -> Answer {
+    by_word!(class, order, write(offsets, table))
 }
 
 /// Adds the base to the image's word at each offset of a table; the image's first byte is at the
 /// start.
 pub fn relr_apply<B: Bits>(
     class: u32,
+    order: ByteOrder,
     table: &[u8],
     base: u64,
     start: u64,
     image: &mut [u8],
 ) -> Answer {
-    by_class!(class, apply<B>(table, base, start, image))
+    by_word!(class, order, apply<B>(table, base, start, image))
 }
 
-/// Reading, for a class.
+/// Reading, for a class and an order.
 fn read<W: Word, B: Bits>(table: &[u8], offsets: &mut [u64]) -> Answer {
     let found = find::<W, B>(table, Inside { start: 0, places: u64::MAX })?;
     enough(offsets.len(), found.count as u64)?;
@@ -46,7 +52,7 @@ fn read<W: Word, B: Bits>(table: &[u8], offsets: &mut [u64]) -> Answer {
     Ok(found.count)
 }
 
-/// Applying, for a class.
+/// Applying, for a class and an order.
 fn apply<W: Word, B: Bits>(table: &[u8], base: u64, start: u64, image: &mut [u8]) -> Answer {
     if base > W::TOP {
         return refuse(BASE, 0);
@@ -200,7 +206,7 @@ fn words<W: Word>(table: &[u8]) -> impl Iterator<Item = u64> {
     table.chunks_exact(W::BYTES).map(W::load)
 }
 
-/// Writing, for a class.
+/// Writing, for a class and an order.
 fn write<W: Word>(offsets: &[u64], table: &mut [u8]) -> Answer {
     writable(offsets.len())?;
     increasing(offsets, |offset| match offset {

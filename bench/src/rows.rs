@@ -6,6 +6,7 @@ use reference::corpus::calls::{
 use reference::corpus::case::{Case, FILL};
 use reference::corpus::rng::Rng;
 use reference::corpus::tables::relr_bytes;
+use reference::corpus::twin::twin;
 
 /// The seed of every list.
 const SEED: u64 = 1;
@@ -18,6 +19,9 @@ pub const START: u64 = 0x1000;
 
 /// The sizes of a row, if nothing else is said.
 pub const SIZES: [usize; 4] = [10_000, 100_000, 1_000_000, 4_000_000];
+
+/// The sizes of a big-endian row, if its little-endian one has more than one.
+const BIG_SIZES: [usize; 2] = [10_000, 1_000_000];
 
 /// A row: its name, the numbers of records that it is measured with, and its case of so many.
 pub struct Row {
@@ -56,8 +60,24 @@ const SHAPES: [(&str, Shape, &[usize]); 6] = [
 /// The longest run of an APR1 list, by name.
 const RUNS: [(&str, u64); 2] = [("short runs", 4), ("long runs", 2_000)];
 
-/// All rows.
+/// All rows; behind each of RELR the big-endian one.
 pub fn all() -> Vec<Row> {
+    let pairs = relr().into_iter().zip(relr().into_iter().map(big_endian));
+    let mut rows: Vec<Row> = pairs.flat_map(|(little, big)| [little, big]).collect();
+    for (name, longest) in RUNS {
+        rows.extend(both("APR1", name, APR1_READ, move |records| apr1_list(longest, records)));
+    }
+    rows.extend(both("APA1", "records", APA1_READ, |records| record_list(APA1_WRITE, 0, records)));
+    for class in [4, 8] {
+        let name = format!("records, class {class}");
+        let list = move |records| record_list(RELLEB_WRITE, class, records);
+        rows.extend(both("RELLEB", &name, RELLEB_READ, list));
+    }
+    rows
+}
+
+/// The little-endian rows of RELR.
+fn relr() -> Vec<Row> {
     let shapes = SHAPES.iter().flat_map(|shape| [(shape, 4), (shape, 8)]);
     let mut rows = Vec::new();
     for (&(name, shape, sizes), class) in shapes.clone() {
@@ -70,16 +90,17 @@ pub fn all() -> Vec<Row> {
         let list = move |records| relr_list(shape, class, records);
         rows.extend(both("RELR", &name, RELR_READ, list).map(|row| Row { sizes, ..row }));
     }
-    for (name, longest) in RUNS {
-        rows.extend(both("APR1", name, APR1_READ, move |records| apr1_list(longest, records)));
-    }
-    rows.extend(both("APA1", "records", APA1_READ, |records| record_list(APA1_WRITE, 0, records)));
-    for class in [4, 8] {
-        let name = format!("records, class {class}");
-        let list = move |records| record_list(RELLEB_WRITE, class, records);
-        rows.extend(both("RELLEB", &name, RELLEB_READ, list));
-    }
     rows
+}
+
+/// A row of RELR with the words of tables and images big-endian.
+fn big_endian(Row { name, sizes, case }: Row) -> Row {
+    let case = move |records| twin(&case(records)).expect("RELR has a byte order");
+    Row {
+        name: format!("{name}, big-endian"),
+        sizes: if sizes.len() > 1 { &BIG_SIZES } else { sizes },
+        case: Box::new(case),
+    }
 }
 
 /// The rows of writing a list and of reading the table written.

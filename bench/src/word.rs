@@ -1,6 +1,8 @@
-//! The word of a class: `u32` for class 4, `u64` for class 8.
+//! The words of a class, `u32` for class 4 and `u64` for class 8, in a byte order.
 
-/// What a class gives its tables.
+use std::marker::PhantomData;
+
+/// What a class and an order give their tables.
 pub trait Word {
     /// A word's bytes.
     type Bytes: AsMut<[u8]>;
@@ -29,20 +31,32 @@ pub trait Word {
     fn signed(sum: u64) -> i64;
 }
 
-/// The word of an unsigned type and the signed type of its width.
+/// The words of an unsigned type, with the high byte first or the low one.
+pub struct Words<T, const BIG: bool>(PhantomData<T>);
+
+/// Words with the low byte first.
+pub type Little<T> = Words<T, false>;
+
+/// Words with the high byte first.
+pub type Big<T> = Words<T, true>;
+
+/// The words of an unsigned type and the signed type of its width.
 macro_rules! word {
     ($unsigned:ty, $signed:ty) => {
-        impl Word for $unsigned {
+        impl<const BIG: bool> Word for Words<$unsigned, BIG> {
             type Bytes = [u8; size_of::<$unsigned>()];
 
             const BYTES: usize = size_of::<$unsigned>();
 
             fn load(bytes: &[u8]) -> u64 {
-                <$unsigned>::from_le_bytes(bytes.try_into().unwrap()) as u64
+                let word = <$unsigned>::from_le_bytes(bytes.try_into().unwrap());
+                (if BIG { word.swap_bytes() } else { word }) as u64
             }
 
             fn store(word: u64, bytes: &mut [u8]) {
-                bytes.copy_from_slice(&(word as $unsigned).to_le_bytes());
+                let word = word as $unsigned;
+                let word = if BIG { word.swap_bytes() } else { word };
+                bytes.copy_from_slice(&word.to_le_bytes());
             }
 
             fn window(bytes: &mut [u8], place: usize) -> Option<&mut [Self::Bytes; 64]> {
@@ -63,14 +77,26 @@ macro_rules! word {
 word!(u32, i32);
 word!(u64, i64);
 
-/// A call with the word of its class, or refusal 1.
+/// A call with the words of its class in a byte order, or refusal 1. RELLEB has no words in its
+/// tables, and either order will do.
 macro_rules! by_class {
-    ($class:expr, $call:ident$(<$bits:ty>)?($($argument:expr),*)) => {
+    ($class:expr, $order:ident, $call:ident$(<$bits:ty>)?($($argument:expr),*)) => {
         match $class {
-            4 => $call::<u32 $(, $bits)?>($($argument),*),
-            8 => $call::<u64 $(, $bits)?>($($argument),*),
+            4 => $call::<$crate::word::$order<u32> $(, $bits)?>($($argument),*),
+            8 => $call::<$crate::word::$order<u64> $(, $bits)?>($($argument),*),
             _ => $crate::refusal::refuse($crate::refusal::CLASS, 0),
         }
     };
 }
 pub(crate) use by_class;
+
+/// The same, with the order as a value.
+macro_rules! by_word {
+    ($class:expr, $order:expr, $($call:tt)*) => {
+        match $order {
+            reloc::ByteOrder::Little => $crate::word::by_class!($class, Little, $($call)*),
+            reloc::ByteOrder::Big => $crate::word::by_class!($class, Big, $($call)*),
+        }
+    };
+}
+pub(crate) use by_word;

@@ -7,7 +7,7 @@ use bench::{limits, rows};
 use reference::corpus::{all, long};
 
 /// The Rust program, in both its ways through bitmaps, answers and leaves every case as the
-/// reference does.
+/// reference does. The corpus has each case of RELR in both byte orders.
 #[test]
 fn rust_on_the_corpus() {
     for named in all().into_iter().chain(long::cases()) {
@@ -21,7 +21,7 @@ fn rust_on_the_corpus() {
     }
 }
 
-/// All programs do as the reference does, also on the shortest lists.
+/// All programs do as the reference does, in both byte orders, also on the shortest lists.
 #[test]
 fn all_on_the_rows() {
     for row in rows::all() {

@@ -50,21 +50,44 @@ impl Answer {
     }
 }
 
+/// Low byte first, or "high byte first", by document 02.
+#[derive(Clone, Copy, PartialEq, Eq, Debug)]
+pub enum ByteOrder {
+    Little,
+    Big,
+}
+
 /// "Each class carries its own word size, bit width and window: 31 locations
-/// for class 4, 63 for class 8."
+/// for class 4, 63 for class 8." "What describes a class [...] also holds the
+/// byte order, one of two values", by document 02.
 pub struct Class {
     pub bytes: usize,
     pub bits: u32,
     pub window: u32,
+    pub order: ByteOrder,
 }
 
 impl Class {
-    /// Refusal 1, "class not 4 or 8", place 0.
+    /// Refusal 1, "class not 4 or 8", place 0. "Words are little-endian."
     pub fn of(number: u32) -> Result<Class, Answer> {
+        let order = ByteOrder::Little;
         match number {
-            4 => Ok(Class { bytes: 4, bits: 32, window: 31 }),
-            8 => Ok(Class { bytes: 8, bits: 64, window: 63 }),
+            4 => Ok(Class { bytes: 4, bits: 32, window: 31, order }),
+            8 => Ok(Class { bytes: 8, bits: 64, window: 63, order }),
             _ => Err(Answer::refused(1, 0)),
+        }
+    }
+
+    /// The class with words of a byte order.
+    pub fn ordered(number: u32, order: ByteOrder) -> Result<Class, Answer> {
+        Ok(Class { order, ..Class::of(number)? })
+    }
+
+    /// The power of 256 that byte `k` of a word stands for.
+    pub fn power(&self, k: usize) -> usize {
+        match self.order {
+            ByteOrder::Little => k,
+            ByteOrder::Big => self.bytes - 1 - k,
         }
     }
 

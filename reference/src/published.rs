@@ -1,9 +1,10 @@
 //! What crate `cases` must print: the published LEB128 examples, each edge of
-//! document 01's table of last bytes, its cases J to N, images with a start, and
-//! bad input. Every answer is that of the calls here.
+//! document 01's table of last bytes, its cases J to N, images with a start, bad
+//! input, and big-endian words. Every answer is that of the calls here.
 
+use crate::ByteOrder::{self, Big, Little};
 use crate::corpus::hand_relr::{OUT4, OUT8, TOP4, TOP8};
-use crate::corpus::tables::{join, number, relr_bytes};
+use crate::corpus::tables::{join, number, relr_bytes, turned};
 use crate::leb::{self, Kind, Kind::Signed, Kind::Unsigned};
 use crate::{Answer, apa1_read, relr_apply, relr_read, relr_write};
 
@@ -67,7 +68,7 @@ const BAD: [(&[u8], usize, u32); 10] = [
 
 /// The whole text.
 pub fn text() -> String {
-    [numbers(), reads(), applies(), writes(), counts()].concat()
+    [numbers(), reads(), applies(), writes(), counts(), big_endian()].concat()
 }
 
 fn numbers() -> String {
@@ -139,22 +140,22 @@ fn reads() -> String {
         read(4, &[0x100, 1, 3]),
         read(4, &[0x100, 0xF]),
         read(4, &[]),
-        read_bytes(4, &[0, 1, 0]),
+        read_into(4, Little, &[0, 1, 0], &mut [7; 2]),
         read(5, &[]),
     ]
     .concat()
 }
 
+/// A table read into a column of two sevens.
 fn read(class: u32, words: &[u64]) -> String {
-    read_bytes(class, &relr_bytes(class, words))
+    read_into(class, Little, &relr_bytes(class, words), &mut [7; 2])
 }
 
-/// A table read into a column of two sevens.
-fn read_bytes(class: u32, table: &[u8]) -> String {
-    let mut offsets = [7; 2];
-    let answer = full(relr_read(class, table, &mut offsets));
-    let [first, second] = offsets;
-    format!("relr read class {class}:{}{answer} {first} {second}\n", hex(table))
+/// A table read into a column.
+fn read_into(class: u32, order: ByteOrder, table: &[u8], offsets: &mut [u64]) -> String {
+    let answer = full(relr_read(class, order, table, offsets));
+    let (order, table, offsets) = (named(order), hex(table), items(offsets));
+    format!("relr read class {class}{order}:{table}{answer}{offsets}\n")
 }
 
 /// Cases J and N, words that overlap, and bad input; then images that start
@@ -184,10 +185,22 @@ fn applies() -> String {
 /// A table applied to eight bytes FF.
 fn apply(class: u32, words: &[u64], base: u64, start: u64) -> String {
     let table = relr_bytes(class, words);
-    let mut image = [0xFF; 8];
-    let answer = full(relr_apply(class, &table, base, start, &mut image));
-    let (table, image) = (hex(&table), hex(&image));
-    format!("relr apply class {class} base {base} start {start}:{table}{answer} image{image}\n")
+    apply_to(class, Little, &table, base, start, &mut [0xFF; 8])
+}
+
+/// A table applied to an image.
+fn apply_to(
+    class: u32,
+    order: ByteOrder,
+    table: &[u8],
+    base: u64,
+    start: u64,
+    image: &mut [u8],
+) -> String {
+    let answer = full(relr_apply(class, order, table, base, start, image));
+    let (order, table, image) = (named(order), hex(table), hex(image));
+    let given = format!("class {class}{order} base {base} start {start}");
+    format!("relr apply {given}:{table}{answer} image{image}\n")
 }
 
 /// Room and none, the top of the space, and bad input.
@@ -206,10 +219,14 @@ fn writes() -> String {
 
 /// Two offsets written into ten bytes 7.
 fn write(class: u32, offsets: [u64; 2]) -> String {
-    let mut table = [7; 10];
-    let answer = full(relr_write(class, &offsets, &mut table));
-    let ([first, second], table) = (offsets, hex(&table));
-    format!("relr write class {class}: {first} {second}{answer} table{table}\n")
+    write_into(class, Little, &offsets, &mut [7; 10])
+}
+
+/// Offsets written into a table.
+fn write_into(class: u32, order: ByteOrder, offsets: &[u64], table: &mut [u8]) -> String {
+    let answer = full(relr_write(class, order, offsets, table));
+    let (order, offsets, table) = (named(order), items(offsets), hex(table));
+    format!("relr write class {class}{order}:{offsets}{answer} table{table}\n")
 }
 
 fn full(answer: Answer) -> String {
@@ -227,6 +244,39 @@ fn counts() -> String {
 fn count(table: &[u8]) -> String {
     let Answer { number, place, count } = apa1_read(table, &mut [0; 64], &mut [0; 64]);
     format!("apa1{} answers {number} at {place} count {count}\n", hex(table))
+}
+
+/// Cases C and F written and read with big-endian words, case J, and an addition
+/// that carries.
+fn big_endian() -> String {
+    [
+        written_and_read(8, &[0x2000, 0x2008, 0x2010, 0x2018], &[0x2000, 0xF]),
+        written_and_read(4, &[0x100, 0x17C], &[0x100, 0x8000_0001]),
+        apply_to(8, Big, &[0; 8], 1, 0, &mut [0xFF; 8]),
+        apply_to(4, Big, &[0; 4], 1, 0, &mut [0, 0, 0, 0xFF]),
+    ]
+    .concat()
+}
+
+/// A list written into sixteen bytes 7, and its words read into a column of four
+/// sevens.
+fn written_and_read(class: u32, list: &[u64], words: &[u64]) -> String {
+    let table = turned(class, &relr_bytes(class, words));
+    let write = write_into(class, Big, list, &mut [7; 16]);
+    write + &read_into(class, Big, &table, &mut [7; 4])
+}
+
+/// The byte order behind a class, where it is big-endian.
+fn named(order: ByteOrder) -> &'static str {
+    match order {
+        Little => "",
+        Big => " big-endian",
+    }
+}
+
+/// Numbers, each behind a space.
+fn items(numbers: &[u64]) -> String {
+    numbers.iter().map(|number| format!(" {number}")).collect()
 }
 
 /// Bytes in hexadecimal, each behind a space.

@@ -1,10 +1,10 @@
 //! RELR: reading, writing, applying.
 
-use crate::{Answer, Class, MOST_INPUT, MOST_LIST, put, within};
+use crate::{Answer, ByteOrder, Class, MOST_INPUT, MOST_LIST, put, within};
 
 /// Order: 1, 2, RELR length, then the first fault along the stream, then 9.
-pub fn relr_read(class: u32, table: &[u8], offsets: &mut [u64]) -> Answer {
-    match Class::of(class).and_then(|class| accepted(&class, table)) {
+pub fn relr_read(class: u32, order: ByteOrder, table: &[u8], offsets: &mut [u64]) -> Answer {
+    match Class::ordered(class, order).and_then(|class| accepted(&class, table)) {
         Err(refusal) => refusal,
         Ok(list) if list.len() > offsets.len() => Answer::needs(list.len() as u64),
         Ok(list) => {
@@ -29,7 +29,7 @@ fn decoded(class: &Class, table: &[u8]) -> Result<Vec<u64>, Answer> {
     // "Where is a whole number and doesn't wrap."
     let mut place_where: Option<u128> = None;
     for (index, chunk) in table.chunks(class.bytes).enumerate() {
-        let word = word_at(chunk);
+        let word = word_of(class, chunk);
         let place = index * class.bytes;
         if word.is_multiple_of(2) {
             // "An even word is an offset; where becomes that offset plus one
@@ -55,13 +55,18 @@ fn decoded(class: &Class, table: &[u8]) -> Result<Vec<u64>, Answer> {
     Ok(list)
 }
 
-/// "Words are little-endian."
-fn word_at(chunk: &[u8]) -> u128 {
+/// The word that so many bytes as the class has hold in its order.
+fn word_of(class: &Class, bytes: &[u8]) -> u128 {
     let mut word = 0;
-    for (k, byte) in chunk.iter().enumerate() {
-        word += (*byte as u128) << (8 * k);
+    for (k, byte) in bytes.iter().enumerate() {
+        word += (*byte as u128) << (8 * class.power(k));
     }
     word
+}
+
+/// Byte `k` of a word in the class's order. What is above W bits is lost.
+fn byte_of(class: &Class, word: u128, k: usize) -> u8 {
+    (word >> (8 * class.power(k))) as u8
 }
 
 /// So many words, in bytes.
@@ -80,17 +85,17 @@ fn tell(class: &Class, offset: u128, place: usize, list: &mut Vec<u64>) -> Resul
 }
 
 /// Order: 1, 2, then the first fault along the list, then 9.
-pub fn relr_write(class: u32, offsets: &[u64], table: &mut [u8]) -> Answer {
-    put(written(class, offsets), table)
+pub fn relr_write(class: u32, order: ByteOrder, offsets: &[u64], table: &mut [u8]) -> Answer {
+    put(written(class, order, offsets), table)
 }
 
-fn written(class: u32, offsets: &[u64]) -> Result<Vec<u8>, Answer> {
-    let class = Class::of(class)?;
+fn written(class: u32, order: ByteOrder, offsets: &[u64]) -> Result<Vec<u8>, Answer> {
+    let class = Class::ordered(class, order)?;
     within(offsets.len(), MOST_LIST)?;
     legal(&class, offsets)?;
     let mut bytes = Vec::new();
     for word in made_words(&class, offsets) {
-        bytes.extend_from_slice(&word.to_le_bytes()[..class.bytes]);
+        bytes.extend((0..class.bytes).map(|k| byte_of(&class, word as u128, k)));
     }
     Ok(bytes)
 }
@@ -152,38 +157,45 @@ fn bit_of(class: &Class, start: u128, offset: u64) -> Option<u32> {
 }
 
 /// Order: 1, 15, 2, RELR length, then the first fault along the stream, then
-/// 12.
-pub fn relr_apply(class: u32, table: &[u8], base: u64, start: u64, image: &mut [u8]) -> Answer {
-    match patched(class, table, base, start, image) {
+/// 12. The byte order is that of the table's words and of the image's.
+pub fn relr_apply(
+    class: u32,
+    order: ByteOrder,
+    table: &[u8],
+    base: u64,
+    start: u64,
+    image: &mut [u8],
+) -> Answer {
+    let class = Class::ordered(class, order);
+    match class.and_then(|class| patched(&class, table, base, start, image)) {
         Ok(count) => Answer::done(count),
         Err(refusal) => refusal,
     }
 }
 
 fn patched(
-    class: u32,
+    class: &Class,
     table: &[u8],
     base: u64,
     start: u64,
     image: &mut [u8],
 ) -> Result<usize, Answer> {
-    let class = Class::of(class)?;
     // "15: apply, class 4: base above 2^32−1", place 0
     if class.bits == 32 && base > u32::MAX as u64 {
         return Err(Answer::refused(15, 0));
     }
-    let list = accepted(&class, table)?;
+    let list = accepted(class, table)?;
     // "12: apply: word ends outside the image", at the "index in the list";
     // every offset is looked at before any word is patched
     for (index, &offset) in list.iter().enumerate() {
-        if !inside(&class, offset, start, image.len()) {
+        if !inside(class, offset, start, image.len()) {
             return Err(Answer::refused(12, index));
         }
     }
     for &offset in &list {
         // "Offset minus start is the index", by document 02.
         let at = (offset - start) as usize;
-        add(base, &mut image[at..at + class.bytes]);
+        add(class, base, &mut image[at..at + class.bytes]);
     }
     Ok(list.len())
 }
@@ -197,7 +209,9 @@ fn inside(class: &Class, offset: u64, start: u64, length: usize) -> bool {
 }
 
 /// "the word there becomes itself plus base, reduced modulo 2^W"
-fn add(base: u64, word: &mut [u8]) {
-    let sum = word_at(word) + base as u128;
-    word.copy_from_slice(&sum.to_le_bytes()[..word.len()]);
+fn add(class: &Class, base: u64, word: &mut [u8]) {
+    let sum = word_of(class, word) + base as u128;
+    for (k, byte) in word.iter_mut().enumerate() {
+        *byte = byte_of(class, sum, k);
+    }
 }

@@ -2,9 +2,11 @@
 
 use reference::corpus::calls::{
     APA1_READ, APA1_WRITE, APR1_READ, APR1_WRITE, CALLS, Call, NUMBERS, RELLEB_READ, RELLEB_WRITE,
-    RELR_APPLY, RELR_READ, RELR_WRITE, Shape,
+    RELR_APPLY, RELR_READ, RELR_WRITE, Setting, Shape,
 };
 use reference::corpus::case::{Case, decode, fnv1a};
+use reference::corpus::tables::turned;
+use reference::corpus::twin::{changed, twin};
 use reference::corpus::{Named, all, hand, long, pairs};
 use reference::leb::Kind::{self, Signed, Unsigned};
 use reference::published;
@@ -31,12 +33,57 @@ fn decoding_gives_the_cases_back() {
     }
 }
 
+fn ordered(named: &Named) -> bool {
+    named.case.call().takes(Setting::Order)
+}
+
+/// Each RELR case stands in both byte orders.
+#[test]
+fn every_relr_case_has_its_twin() {
+    let (big, little): (Vec<Named>, Vec<Named>) =
+        all().into_iter().filter(ordered).partition(|named| named.case.big);
+    assert_eq!(little.len(), big.len());
+    for (little, big) in little.iter().zip(big) {
+        assert_eq!(big.name, format!("{}, big-endian", little.name));
+        assert!(Some(big.case) == twin(&little.case), "{}", big.name);
+    }
+}
+
+/// A twin has the same answer, and leaves the same columns, the same words of a
+/// table and, where none overlap, the same words of an image.
+#[test]
+fn a_twin_means_the_same() {
+    let mut images = 0;
+    for named in all().iter().filter(|named| ordered(named) && !named.case.big) {
+        let big = twin(&named.case).unwrap();
+        let ((answer, after), (same, big_after)) = (named.case.run(), big.run());
+        assert_eq!(same, answer, "{}", named.name);
+        assert!(big_after.offsets == after.offsets, "{}", named.name);
+        let done = if answer.number == 0 { answer.count as usize } else { 0 };
+        match named.case.call().shape {
+            Shape::Write => {
+                let (table, rest) = after.bytes.split_at(done);
+                let table = turned(named.case.class, table);
+                assert!(big_after.bytes == [&table, rest].concat(), "{}", named.name);
+            }
+            Shape::Apply if done > 0 && changed(&named.case).is_some() => {
+                assert!(twin(&after).unwrap().bytes == big_after.bytes, "{}", named.name);
+                images += 1;
+            }
+            _ => {}
+        }
+    }
+    assert!(images > 100, "{images}");
+}
+
 /// Each call refuses a long input or list with 2, and answers otherwise at the
-/// limit.
+/// limit; one that takes a class does so in both classes, one that takes the byte
+/// order in both orders.
 #[test]
 fn every_call_has_its_limit() {
-    for row in pairs::counts(long::cases()) {
-        assert!(row[2] > 0);
+    for (call, row) in CALLS.iter().zip(pairs::counts(long::cases())) {
+        let twice = |setting| if call.takes(setting) { 2 } else { 1 };
+        assert_eq!(row[2], twice(Setting::Class) * twice(Setting::Order), "{}", call.name);
         assert_eq!(row.iter().sum::<usize>(), 2 * row[2]);
     }
 }

@@ -1,8 +1,9 @@
 //! No accepted table that decodes to a list has fewer words than the written
 //! one.
 
+use reference::ByteOrder::{self, Big, Little};
 use reference::corpus::rng::Rng;
-use reference::corpus::tables::relr_bytes;
+use reference::corpus::tables::{relr_bytes, turned};
 use reference::{relr_read, relr_write};
 use std::collections::BTreeSet;
 
@@ -46,25 +47,27 @@ fn followers(class: u32, list: &[u64], (told, start): State) -> Vec<State> {
     reached
 }
 
-fn written_words(class: u32, list: &[u64]) -> usize {
+fn written_words(class: u32, order: ByteOrder, list: &[u64]) -> usize {
     let mut table = vec![0; list.len() * class as usize];
-    let answer = relr_write(class, list, &mut table);
+    let answer = relr_write(class, order, list, &mut table);
     assert_eq!(answer.number, 0, "never more words than offsets");
     let mut got = vec![0; list.len()];
-    let read = relr_read(class, &table[..answer.count as usize], &mut got);
+    let read = relr_read(class, order, &table[..answer.count as usize], &mut got);
     assert_eq!((read.number, got), (0, list.to_vec()));
     answer.count as usize / class as usize
 }
 
-/// Also that less room is refused with the least need.
+/// In both orders; also that less room is refused with the least need.
 fn check(class: u32, list: &[u64]) {
     let least = least_words(class, list);
-    assert_eq!(written_words(class, list), least, "class {class} {list:x?}");
     let need = least * class as usize;
-    for room in [0, need / 2, need.saturating_sub(1)] {
-        let answer = relr_write(class, list, &mut vec![0; room]);
-        let want = if room < need { 9 } else { 0 };
-        assert_eq!((answer.number, answer.count), (want, need as u64));
+    for order in [Little, Big] {
+        assert_eq!(written_words(class, order, list), least, "class {class} {list:x?}");
+        for room in [0, need / 2, need.saturating_sub(1)] {
+            let answer = relr_write(class, order, list, &mut vec![0; room]);
+            let want = if room < need { 9 } else { 0 };
+            assert_eq!((answer.number, answer.count), (want, need as u64));
+        }
     }
 }
 
@@ -152,12 +155,17 @@ fn random_tables_are_not_shorter() {
     let mut seen = 0;
     for _ in 0..40_000 {
         let class = rng.pick(&[4u32, 8]);
+        let order = rng.pick(&[Little, Big]);
         let words = random_words(&mut rng, class);
+        let mut table = relr_bytes(class, &words);
+        if order == Big {
+            table = turned(class, &table);
+        }
         let mut list = vec![0; 999];
-        let answer = relr_read(class, &relr_bytes(class, &words), &mut list);
+        let answer = relr_read(class, order, &table, &mut list);
         list.truncate(answer.count as usize);
         if answer.number == 0 && list.is_sorted_by(|a, b| a < b) {
-            assert!(written_words(class, &list) <= words.len(), "{words:x?}");
+            assert!(written_words(class, order, &list) <= words.len(), "{words:x?}");
             seen += 1;
         }
     }

@@ -1,6 +1,7 @@
 //! Refusals: every hand-made case, what stays untouched, and the limits of
 //! length.
 
+use reference::ByteOrder::{Big, Little};
 use reference::corpus::case::Case;
 use reference::corpus::{all, hand};
 use reference::{
@@ -57,15 +58,18 @@ fn assert_beyond(before: &Case, after: &Case, count: usize) {
 fn input_over_its_length() {
     let long = vec![0x80; MOST_INPUT + 1];
     let two = answer(2, 0, 0);
-    assert_eq!(relr_read(8, &long, &mut []), two);
-    assert_eq!(relr_read(4, &long[..], &mut [0; 9]), two);
-    assert_eq!(relr_read(5, &long, &mut []), answer(1, 0, 0));
-    assert_eq!(relr_apply(8, &long, 1 << 40, 0, &mut []), two);
-    assert_eq!(relr_apply(4, &long, 1, 0, &mut []), two);
-    assert_eq!(relr_apply(4, &long, 1 << 40, 0, &mut []), answer(15, 0, 0));
-    assert_eq!(relr_apply(9, &long, 1 << 40, 0, &mut []), answer(1, 0, 0));
-    assert_eq!(relr_apply(4, &long, 1, u64::MAX, &mut []), two);
-    assert_eq!(relr_apply(4, &long, 1 << 40, u64::MAX, &mut []), answer(15, 0, 0));
+    for order in [Little, Big] {
+        let apply = |class, base, start| relr_apply(class, order, &long, base, start, &mut []);
+        assert_eq!(relr_read(8, order, &long, &mut []), two);
+        assert_eq!(relr_read(4, order, &long, &mut [0; 9]), two);
+        assert_eq!(relr_read(5, order, &long, &mut []), answer(1, 0, 0));
+        assert_eq!(apply(8, 1 << 40, 0), two);
+        assert_eq!(apply(4, 1, 0), two);
+        assert_eq!(apply(4, 1 << 40, 0), answer(15, 0, 0));
+        assert_eq!(apply(9, 1 << 40, 0), answer(1, 0, 0));
+        assert_eq!(apply(4, 1, u64::MAX), two);
+        assert_eq!(apply(4, 1 << 40, u64::MAX), answer(15, 0, 0));
+    }
     assert_eq!(apr1_read(&long, &mut []), two);
     assert_eq!(apa1_read(&long, &mut [0; 2], &mut [0; 2]), two);
     assert_eq!(apa1_read(&long, &mut [0; 2], &mut [0; 3]), answer(11, 0, 0));
@@ -81,10 +85,12 @@ fn input_over_its_length() {
 #[test]
 fn input_at_its_length() {
     let full = vec![0; MOST_INPUT];
-    assert_eq!(relr_read(8, &full, &mut []), answer(9, 0, MOST_INPUT as u64 / 8));
-    assert_eq!(relr_read(4, &full, &mut []), answer(9, 0, MOST_INPUT as u64 / 4));
-    assert_eq!(relr_apply(4, &full, 0, 0, &mut []), answer(12, 0, 0));
-    assert_eq!(relr_apply(8, &full, 0, 1, &mut [0; 9]), answer(12, 0, 0));
+    for order in [Little, Big] {
+        assert_eq!(relr_read(8, order, &full, &mut []), answer(9, 0, MOST_INPUT as u64 / 8));
+        assert_eq!(relr_read(4, order, &full, &mut []), answer(9, 0, MOST_INPUT as u64 / 4));
+        assert_eq!(relr_apply(4, order, &full, 0, 0, &mut []), answer(12, 0, 0));
+        assert_eq!(relr_apply(8, order, &full, 0, 1, &mut [0; 9]), answer(12, 0, 0));
+    }
     assert_eq!(apr1_read(&full, &mut []), answer(3, 0, 0));
     assert_eq!(apa1_read(&full, &mut [], &mut []), answer(3, 0, 0));
     let answered = relleb_read(8, &full, &mut [], &mut [], &mut [], &mut []);
@@ -98,9 +104,11 @@ fn list_over_its_length() {
     let offsets = vec![u64::MAX; count];
     let (words, addends) = (vec![1; count], vec![i64::MAX; count]);
     let two = answer(2, 0, 0);
-    assert_eq!(relr_write(8, &offsets, &mut []), two);
-    assert_eq!(relr_write(4, &offsets, &mut []), two);
-    assert_eq!(relr_write(3, &offsets, &mut []), answer(1, 0, 0));
+    for order in [Little, Big] {
+        assert_eq!(relr_write(8, order, &offsets, &mut []), two);
+        assert_eq!(relr_write(4, order, &offsets, &mut []), two);
+        assert_eq!(relr_write(3, order, &offsets, &mut []), answer(1, 0, 0));
+    }
     assert_eq!(apr1_write(&offsets, &mut []), two);
     assert_eq!(apa1_write(&offsets, &addends, &mut []), two);
     assert_eq!(apa1_write(&offsets, &addends[1..], &mut []), answer(11, 0, 0));
@@ -118,7 +126,8 @@ fn list_at_its_length() {
     let count = MOST_LIST;
     let many = count as u64;
     let offsets: Vec<u64> = (0..many).map(|k| 4 * k).collect();
-    assert_eq!(relr_write(4, &offsets, &mut []).number, 9);
+    assert_eq!(relr_write(4, Little, &offsets, &mut []).number, 9);
+    assert_eq!(relr_write(4, Big, &offsets, &mut []).number, 9);
     assert_eq!(apr1_write(&offsets, &mut []), answer(9, 0, 4 + 1 + 1 + 4 + 1));
     let zeros = vec![0; count];
     let apa1 = apa1_write(&zeros, &vec![0; count], &mut []);

@@ -1,5 +1,6 @@
 //! Reading what was written, on random lists.
 
+use reference::ByteOrder::{self, Big, Little};
 use reference::corpus::rng::Rng;
 use reference::{
     Answer, apa1_read, apa1_write, apr1_read, apr1_write, relleb_read, relleb_write, relr_apply,
@@ -8,6 +9,9 @@ use reference::{
 use std::collections::BTreeMap;
 
 const ROUNDS: usize = 2_000;
+
+/// Both classes in both byte orders.
+const FORMS: [(u32, ByteOrder); 4] = [(4, Little), (4, Big), (8, Little), (8, Big)];
 
 /// A strictly increasing list whose last offset is at most `last`.
 fn rising(rng: &mut Rng, step: u64, last: u64) -> Vec<u64> {
@@ -49,12 +53,13 @@ fn made(write: impl Fn(&mut [u8]) -> Answer) -> Vec<u8> {
 fn relr() {
     let mut rng = Rng::new(11);
     for _ in 0..ROUNDS {
-        for (class, last) in [(4, 0xFFFF_FFFC), (8, u64::MAX - 7)] {
+        for (class, order) in FORMS {
+            let last = if class == 4 { 0xFFFF_FFFC } else { u64::MAX - 7 };
             let list = rising(&mut rng, 2, last);
-            let table = made(|room| relr_write(class, &list, room));
+            let table = made(|room| relr_write(class, order, &list, room));
             assert!(table.len() <= list.len() * class as usize);
             let mut got = vec![0; list.len()];
-            let answer = relr_read(class, &table, &mut got);
+            let answer = relr_read(class, order, &table, &mut got);
             assert_eq!((answer.number, answer.count), (0, list.len() as u64));
             assert_eq!(got, list);
         }
@@ -133,57 +138,66 @@ fn signed(rng: &mut Rng, bits: u32) -> i64 {
 fn apply_follows_read() {
     let mut rng = Rng::new(15);
     for _ in 0..ROUNDS {
-        for class in [4, 8] {
-            apply_once(&mut rng, class);
+        for (class, order) in FORMS {
+            apply_once(&mut rng, class, order);
         }
     }
 }
 
-fn apply_once(rng: &mut Rng, class: u32) {
-    let table = table_from(rng, class, 0);
+fn apply_once(rng: &mut Rng, class: u32, order: ByteOrder) {
+    let table = table_from(rng, class, order, 0);
     let base = rng.draw() >> (64 - 8 * class);
     let before: Vec<u8> = (0..130).map(|_| rng.draw() as u8).collect();
-    let (read, list) = list_of(class, &table);
+    let (read, list) = list_of(class, order, &table);
     let mut want = before.clone();
     for offset in list {
-        add(class, base, &mut want[offset as usize..]);
+        add(class, order, base, &mut want[offset as usize..]);
     }
     let mut image = before;
-    assert_eq!(relr_apply(class, &table, base, 0, &mut image), read);
+    assert_eq!(relr_apply(class, order, &table, base, 0, &mut image), read);
     assert_eq!(image, want);
 }
 
 /// Addresses from `first` on, each with a bitmap behind it, for 130 bytes.
-fn table_from(rng: &mut Rng, class: u32, first: u64) -> Vec<u8> {
+fn table_from(rng: &mut Rng, class: u32, order: ByteOrder, first: u64) -> Vec<u8> {
     let mut table = Vec::new();
     for _ in 0..1 + rng.below(6) {
         let address = first + rng.below(30) * 2;
         let bitmap = rng.below(64) * 2 + 1;
-        table.extend_from_slice(&address.to_le_bytes()[..class as usize]);
-        table.extend_from_slice(&bitmap.to_le_bytes()[..class as usize]);
+        for word in [address, bitmap] {
+            match order {
+                Little => table.extend_from_slice(&word.to_le_bytes()[..class as usize]),
+                Big => table.extend_from_slice(&word.to_be_bytes()[8 - class as usize..]),
+            }
+        }
     }
     table
 }
 
 /// What reading a table answers, and its list.
-fn list_of(class: u32, table: &[u8]) -> (Answer, Vec<u64>) {
+fn list_of(class: u32, order: ByteOrder, table: &[u8]) -> (Answer, Vec<u64>) {
     let mut list = vec![0; 999];
-    let read = relr_read(class, table, &mut list);
+    let read = relr_read(class, order, table, &mut list);
     assert_eq!(read.number, 0);
     list.truncate(read.count as usize);
     (read, list)
 }
 
 /// Adds the base to the first word of some bytes.
-fn add(class: u32, base: u64, bytes: &mut [u8]) {
+fn add(class: u32, order: ByteOrder, base: u64, bytes: &mut [u8]) {
+    let word = &mut bytes[..class as usize];
+    if order == Big {
+        word.reverse();
+    }
     if class == 4 {
-        let word = &mut bytes[..4];
         let sum = u32::from_le_bytes(word.try_into().unwrap()).wrapping_add(base as u32);
         word.copy_from_slice(&sum.to_le_bytes());
     } else {
-        let word = &mut bytes[..8];
         let sum = u64::from_le_bytes(word.try_into().unwrap()).wrapping_add(base);
         word.copy_from_slice(&sum.to_le_bytes());
+    }
+    if order == Big {
+        word.reverse();
     }
 }
 
@@ -193,8 +207,8 @@ fn apply_with_a_start() {
     let mut rng = Rng::new(16);
     let mut seen = [0; 2];
     for _ in 0..ROUNDS {
-        for class in [4, 8] {
-            let accepted = apply_from(&mut rng, class);
+        for (class, order) in FORMS {
+            let accepted = apply_from(&mut rng, class, order);
             seen[accepted as usize] += 1;
         }
     }
@@ -203,12 +217,12 @@ fn apply_with_a_start() {
 
 /// A table anywhere in the space, and an image about it; whether every word lies
 /// inside.
-fn apply_from(rng: &mut Rng, class: u32) -> bool {
+fn apply_from(rng: &mut Rng, class: u32, order: ByteOrder) -> bool {
     let top = u64::MAX >> (64 - 8 * class);
     let anywhere = rng.any_size() & (top / 2);
     let first = rng.pick(&[0, 0x1000, top - 129, anywhere]) & !1;
-    let table = table_from(rng, class, first);
-    let (read, list) = list_of(class, &table);
+    let table = table_from(rng, class, order, first);
+    let (read, list) = list_of(class, order, &table);
     let least = *list.iter().min().unwrap();
     let start = match rng.below(4) {
         0 => least.saturating_sub(rng.below(9)),
@@ -220,8 +234,9 @@ fn apply_from(rng: &mut Rng, class: u32) -> bool {
     let base = rng.draw() >> (64 - 8 * class);
     let before: Vec<u8> = (0..length).map(|_| rng.draw() as u8).collect();
     let mut image = before.clone();
-    let answer = relr_apply(class, &table, base, start, &mut image);
-    let (want, after) = match mapped(class, &list, base, start, &before) {
+    let answer = relr_apply(class, order, &table, base, start, &mut image);
+    let add = |word: &mut [u8]| add(class, order, base, word);
+    let (want, after) = match mapped(class, &list, add, start, &before) {
         Ok(after) => (read, after),
         Err(index) => (Answer { number: 12, place: index as u64, count: 0 }, before),
     };
@@ -231,9 +246,15 @@ fn apply_from(rng: &mut Rng, class: u32) -> bool {
 }
 
 /// The image as a map from addresses to bytes: a word is inside when the map has
-/// each of its addresses. What is left of the image, or the index of the first
-/// offset whose word is not inside.
-fn mapped(class: u32, list: &[u64], base: u64, start: u64, image: &[u8]) -> Result<Vec<u8>, usize> {
+/// each of its addresses. What adding leaves of the image, or the index of the
+/// first offset whose word is not inside.
+fn mapped(
+    class: u32,
+    list: &[u64],
+    add: impl Fn(&mut [u8]),
+    start: u64,
+    image: &[u8],
+) -> Result<Vec<u8>, usize> {
     let mut map: BTreeMap<u128, u8> = (start as u128..).zip(image.iter().copied()).collect();
     let addresses = |offset: &u64| *offset as u128..*offset as u128 + class as u128;
     let has = |offset| addresses(offset).all(|at| map.contains_key(&at));
@@ -242,7 +263,7 @@ fn mapped(class: u32, list: &[u64], base: u64, start: u64, image: &[u8]) -> Resu
     }
     for offset in list {
         let mut word: Vec<u8> = addresses(offset).map(|at| map[&at]).collect();
-        add(class, base, &mut word);
+        add(&mut word);
         map.extend(addresses(offset).zip(word));
     }
     Ok(map.into_values().collect())

@@ -1,6 +1,7 @@
 //! The tables worked by hand, A to P, and what the calls leave in the lent
 //! buffers.
 
+use reference::ByteOrder::{self, Big, Little};
 use reference::leb::{self, Kind::Signed, Kind::Unsigned};
 use reference::{
     Answer, apa1_read, apa1_write, apr1_read, apr1_write, relleb_read, relleb_write, relr_apply,
@@ -15,25 +16,38 @@ fn refused(number: u32, place: u64) -> Answer {
     Answer { number, place, count: 0 }
 }
 
-fn bytes(class: u32, words: &[u64]) -> Vec<u8> {
-    words.iter().flat_map(|word| word.to_le_bytes()[..class as usize].to_vec()).collect()
+const ORDERS: [ByteOrder; 2] = [Little, Big];
+
+fn bytes(class: u32, order: ByteOrder, words: &[u64]) -> Vec<u8> {
+    let size = class as usize;
+    let word = |word: &u64| match order {
+        Little => word.to_le_bytes()[..size].to_vec(),
+        Big => word.to_be_bytes()[8 - size..].to_vec(),
+    };
+    words.iter().flat_map(word).collect()
 }
 
-/// The list of a RELR table that must be accepted.
+/// The list of a RELR table that must be accepted, the same in both orders.
 fn offsets(class: u32, words: &[u64]) -> Vec<u64> {
-    let mut list = vec![0; 999];
-    let answer = relr_read(class, &bytes(class, words), &mut list);
-    assert_eq!((answer.number, answer.place), (0, 0));
-    list.truncate(answer.count as usize);
-    list
+    let [little, big] = ORDERS.map(|order| {
+        let mut list = vec![0; 999];
+        let answer = relr_read(class, order, &bytes(class, order, words), &mut list);
+        assert_eq!((answer.number, answer.place), (0, 0));
+        list.truncate(answer.count as usize);
+        list
+    });
+    assert_eq!(little, big);
+    little
 }
 
-/// List and words belong together, both ways.
+/// List and words belong together, both ways and in both orders.
 fn both_ways(class: u32, list: &[u64], words: &[u64]) {
     assert_eq!(offsets(class, words), list);
-    let mut table = vec![0; words.len() * class as usize];
-    assert_eq!(relr_write(class, list, &mut table), done(table.len() as u64));
-    assert_eq!(table, bytes(class, words));
+    for order in ORDERS {
+        let mut table = vec![0; words.len() * class as usize];
+        assert_eq!(relr_write(class, order, list, &mut table), done(table.len() as u64));
+        assert_eq!(table, bytes(class, order, words));
+    }
 }
 
 #[test]
@@ -94,21 +108,25 @@ fn p_relleb() {
 
 #[test]
 fn j_apply() {
-    let mut image = [0xFF; 8];
-    assert_eq!(relr_apply(8, &bytes(8, &[0]), 1, 0, &mut image), done(1));
-    assert_eq!(image, [0; 8]);
+    for order in ORDERS {
+        let mut image = [0xFF; 8];
+        assert_eq!(relr_apply(8, order, &[0; 8], 1, 0, &mut image), done(1));
+        assert_eq!(image, [0; 8]);
+    }
 }
 
 #[test]
 fn k_top_of_the_space() {
-    let mut list = [0; 1];
     let top = u64::MAX - 7;
-    assert_eq!(relr_read(8, &bytes(8, &[top]), &mut list), done(1));
-    assert_eq!(list, [top]);
-    assert_eq!(relr_read(8, &bytes(8, &[top + 2]), &mut list), refused(7, 0));
-    let mut table = [0; 8];
-    assert_eq!(relr_write(8, &[top], &mut table), done(8));
-    assert_eq!(relr_write(8, &[top + 2], &mut table), refused(7, 0));
+    for order in ORDERS {
+        let (mut list, mut table) = ([0; 1], [0; 8]);
+        let mut read = |word| relr_read(8, order, &bytes(8, order, &[word]), &mut list);
+        assert_eq!((read(top), read(top + 2)), (done(1), refused(7, 0)));
+        assert_eq!(list, [top]);
+        assert_eq!(relr_write(8, order, &[top], &mut table), done(8));
+        assert_eq!(relr_write(8, order, &[top + 2], &mut table), refused(7, 0));
+        assert_eq!(table[..], bytes(8, order, &[top]));
+    }
 }
 
 #[test]
@@ -124,23 +142,75 @@ fn l_apa1_count() {
 
 #[test]
 fn m_bitmap_alone() {
-    assert_eq!(relr_read(8, &bytes(8, &[1]), &mut [0; 9]), refused(6, 0));
-    assert_eq!(relr_read(4, &bytes(4, &[1]), &mut [0; 9]), refused(6, 0));
+    for (class, order) in [(8, Little), (8, Big), (4, Little), (4, Big)] {
+        let table = bytes(class, order, &[1]);
+        assert_eq!(relr_read(class, order, &table, &mut [0; 9]), refused(6, 0));
+    }
 }
 
 #[test]
 fn n_word_inside_the_image() {
-    let mut image = [0; 8];
-    assert_eq!(relr_apply(8, &bytes(8, &[0]), 1, 0, &mut image), done(1));
-    assert_eq!(image, [1, 0, 0, 0, 0, 0, 0, 0]);
-    assert_eq!(relr_apply(8, &bytes(8, &[2]), 1, 0, &mut image), refused(12, 0));
-    assert_eq!(image, [1, 0, 0, 0, 0, 0, 0, 0]);
+    for (order, one) in [(Little, [1, 0, 0, 0, 0, 0, 0, 0]), (Big, [0, 0, 0, 0, 0, 0, 0, 1])] {
+        let mut image = [0; 8];
+        let mut apply = |word| relr_apply(8, order, &bytes(8, order, &[word]), 1, 0, &mut image);
+        assert_eq!((apply(0), apply(2)), (done(1), refused(12, 0)));
+        assert_eq!(image, one);
+    }
 }
 
-/// Applies words to eight bytes FF; the answer, and what is left of them.
+/// Applies words to eight bytes FF, the same in both orders; the answer, and what
+/// is left of them.
 fn applied(class: u32, words: &[u64], start: u64) -> (Answer, [u8; 8]) {
-    let mut image = [0xFF; 8];
-    (relr_apply(class, &bytes(class, words), 1, start, &mut image), image)
+    let [little, big] = ORDERS.map(|order| {
+        let mut image = [0xFF; 8];
+        let answer = relr_apply(class, order, &bytes(class, order, words), 1, start, &mut image);
+        (answer, image)
+    });
+    assert_eq!(little, big);
+    little
+}
+
+/// "high byte first": the carry of an addition goes to the byte before, and the
+/// last one is lost.
+#[test]
+fn carries() {
+    let cases: [(u32, ByteOrder, &[u8], &[u8]); 6] = [
+        (4, Big, &[0, 0, 0, 0xFF], &[0, 0, 1, 0]),
+        (4, Little, &[0, 0, 0, 0xFF], &[1, 0, 0, 0xFF]),
+        (4, Big, &[0xFF, 0xFF, 0xFF, 0xFF, 7], &[0, 0, 0, 0, 7]),
+        (8, Big, &[0, 0, 0, 0, 0, 0xFF, 0xFF, 0xFF], &[0, 0, 0, 0, 1, 0, 0, 0]),
+        (8, Little, &[0xFF, 0xFF, 0xFF, 0, 0, 0, 0, 0], &[0, 0, 0, 1, 0, 0, 0, 0]),
+        (8, Little, &[0, 0, 0, 0, 0, 0xFF, 0xFF, 0xFF], &[1, 0, 0, 0, 0, 0xFF, 0xFF, 0xFF]),
+    ];
+    for (class, order, before, after) in cases {
+        let mut image = before.to_vec();
+        assert_eq!(relr_apply(class, order, &bytes(class, order, &[0]), 1, 0, &mut image), done(1));
+        assert_eq!(image, after, "class {class} {order:?} {before:02x?}");
+    }
+}
+
+/// One table told to be in one order and in the other.
+#[test]
+fn the_other_order() {
+    let table = [0, 0, 1, 0, 0x80, 0, 0, 1];
+    let read = |class, order| {
+        let mut list = [9; 3];
+        (relr_read(class, order, &table, &mut list), list)
+    };
+    assert_eq!(read(4, Big), (done(2), [0x100, 0x17C, 9]));
+    assert_eq!(read(4, Little), (done(2), [0x1_0000, 0x0100_0080, 9]));
+    assert_eq!(read(8, Big), (refused(6, 0), [9; 3]));
+    assert_eq!(read(8, Little), (done(1), [0x0100_0080_0001_0000, 9, 9]));
+    let top = bytes(4, Little, &[0xFFFF_FFFC]);
+    assert_eq!(relr_read(4, Big, &top, &mut [0; 9]), refused(6, 0));
+    assert_eq!(relr_read(4, Big, &bytes(4, Little, &[0xFEFF_FFFF]), &mut []), refused(7, 0));
+    let four = bytes(4, Big, &[4]);
+    let mut image = [0; 8];
+    assert_eq!(relr_apply(4, Little, &four, 1, 0, &mut image), refused(12, 0));
+    assert_eq!(relr_apply(4, Little, &four, 1, 0x0400_0000, &mut image), done(1));
+    assert_eq!(image, [1, 0, 0, 0, 0, 0, 0, 0]);
+    assert_eq!(relr_apply(4, Big, &four, 1, 0, &mut image), done(1));
+    assert_eq!(image, [1, 0, 0, 0, 0, 0, 0, 1]);
 }
 
 /// "Offset minus start is the index; an offset below the start, or with its word
@@ -177,10 +247,13 @@ fn starts_at_the_top() {
     assert_eq!(applied(8, &[top], top), (done(1), [0; 8]));
     assert_eq!(applied(8, &[top], top + 1), (refused(12, 0), [0xFF; 8]));
     assert_eq!(applied(8, &[top], top - 1), (refused(12, 0), [0xFF; 8]));
-    let mut image = [0; 64];
-    assert_eq!(relr_apply(8, &bytes(8, &[top]), 5, top - 8, &mut image), done(1));
-    assert_eq!((image[8], image.iter().filter(|byte| **byte != 0).count()), (5, 1));
-    assert_eq!(relr_apply(8, &bytes(8, &[0]), 5, top - 8, &mut image), refused(12, 0));
+    for (order, low) in [(Little, 8), (Big, 15)] {
+        let mut image = [0; 64];
+        let table = bytes(8, order, &[top]);
+        assert_eq!(relr_apply(8, order, &table, 5, top - 8, &mut image), done(1));
+        assert_eq!((image[low], image.iter().filter(|byte| **byte != 0).count()), (5, 1));
+        assert_eq!(relr_apply(8, order, &[0; 8], 5, top - 8, &mut image), refused(12, 0));
+    }
     for start in [1 << 32, u64::MAX] {
         assert_eq!(applied(4, &[0], start), (refused(12, 0), [0xFF; 8]));
         assert_eq!(applied(4, &[], start), (done(0), [0xFF; 8]));
@@ -199,18 +272,22 @@ fn relr_where_grows_by_the_window() {
 
 #[test]
 fn apply_order_counts() {
-    let mut up = [0; 6];
-    assert_eq!(relr_apply(4, &bytes(4, &[0, 2]), 0x1_FFFF, 0, &mut up), done(2));
-    assert_eq!(up, [0xFF, 0xFF, 0, 0, 2, 0]);
-    let mut down = [0; 6];
-    assert_eq!(relr_apply(4, &bytes(4, &[2, 0]), 0x1_FFFF, 0, &mut down), done(2));
-    assert_eq!(down, [0xFF, 0xFF, 0, 0, 1, 0]);
-    let mut twice = [7, 0xFF, 0xFF, 0xFF, 0xFF, 9];
-    assert_eq!(relr_apply(4, &bytes(4, &[0, 0]), 0x8000_0000, 0, &mut twice), done(2));
-    assert_eq!(twice, [7, 0xFF, 0xFF, 0xFF, 0xFF, 9]);
-    let mut inside = [0xFF; 12];
-    assert_eq!(relr_apply(4, &bytes(4, &[4]), 1, 0, &mut inside), done(1));
-    assert_eq!(inside, [0xFF, 0xFF, 0xFF, 0xFF, 0, 0, 0, 0, 0xFF, 0xFF, 0xFF, 0xFF]);
+    let apply = |order, words: &[u64], base, before: &[u8]| {
+        let mut image = before.to_vec();
+        let table = bytes(4, order, words);
+        assert_eq!(relr_apply(4, order, &table, base, 0, &mut image), done(words.len() as u64));
+        image
+    };
+    assert_eq!(apply(Little, &[0, 2], 0x1_FFFF, &[0; 6]), [0xFF, 0xFF, 0, 0, 2, 0]);
+    assert_eq!(apply(Little, &[2, 0], 0x1_FFFF, &[0; 6]), [0xFF, 0xFF, 0, 0, 1, 0]);
+    assert_eq!(apply(Big, &[0, 2], 0x1_FFFF, &[0; 6]), [0, 1, 0, 0, 0xFF, 0xFF]);
+    assert_eq!(apply(Big, &[2, 0], 0x1_FFFF, &[0; 6]), [0, 2, 0, 0, 0xFF, 0xFF]);
+    for order in ORDERS {
+        let twice = [7, 0xFF, 0xFF, 0xFF, 0xFF, 9];
+        assert_eq!(apply(order, &[0, 0], 0x8000_0000, &twice), twice);
+        let inside = [0xFF, 0xFF, 0xFF, 0xFF, 0, 0, 0, 0, 0xFF, 0xFF, 0xFF, 0xFF];
+        assert_eq!(apply(order, &[4], 1, &[0xFF; 12]), inside);
+    }
 }
 
 #[test]

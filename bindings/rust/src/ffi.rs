@@ -30,6 +30,7 @@ unsafe extern "C" {
 
     pub fn reloc_relr_read(
         class: u32,
+        big: bool,
         table: *const u8,
         table_len: usize,
         offsets: *mut u64,
@@ -38,6 +39,7 @@ unsafe extern "C" {
 
     pub fn reloc_relr_write(
         class: u32,
+        big: bool,
         offsets: *const u64,
         offsets_len: usize,
         table: *mut u8,
@@ -46,6 +48,7 @@ unsafe extern "C" {
 
     pub fn reloc_relr_apply(
         class: u32,
+        big: bool,
         table: *const u8,
         table_len: usize,
         base: u64,

@@ -2,8 +2,9 @@
 //! applied by the C library `libreloc.a`.
 //!
 //! The class is the size of a word in bytes, 4 or 8; W, the word's width, is 32
-//! or 64 bits. Words are little-endian. The entries of a record stand at one
-//! index of each column; columns of one call have one length.
+//! or 64 bits. RELR's words have a [`ByteOrder`], in the table and in the image
+//! alike; the other kinds hold LEB128 numbers and take none. The entries of a
+//! record stand at one index of each column; columns of one call have one length.
 //!
 //! On success a call gives the records read, the bytes written or the additions
 //! made; a read changes that many entries at the front of each column, a write
@@ -13,16 +14,16 @@
 //! answer, for the empty list too:
 //!
 //! ```
-//! use reloc::{need, relr_read, relr_write};
+//! use reloc::{ByteOrder::Little, need, relr_read, relr_write};
 //!
 //! let offsets = [0x2000, 0x2008, 0x2010, 0x2018];
-//! let room = need(relr_write(8, &offsets, &mut []))?;
+//! let room = need(relr_write(8, Little, &offsets, &mut []))?;
 //! let mut table = vec![0; room as usize];
-//! assert_eq!(relr_write(8, &offsets, &mut table), Ok(16));
+//! assert_eq!(relr_write(8, Little, &offsets, &mut table), Ok(16));
 //!
-//! let room = need(relr_read(8, &table, &mut []))?;
+//! let room = need(relr_read(8, Little, &table, &mut []))?;
 //! let mut again = vec![0; room as usize];
-//! assert_eq!(relr_read(8, &table, &mut again), Ok(4));
+//! assert_eq!(relr_read(8, Little, &table, &mut again), Ok(4));
 //! assert_eq!(again, offsets);
 //! # Ok::<(), reloc::Refusal>(())
 //! ```
@@ -38,8 +39,24 @@ mod refusal;
 
 pub use refusal::{Kind, Refusal};
 
+/// The byte order of RELR's words: of the table's and of the image's.
+#[derive(Clone, Copy, PartialEq, Eq, Debug)]
+pub enum ByteOrder {
+    /// Low byte first.
+    Little,
+    /// High byte first.
+    Big,
+}
+
+impl ByteOrder {
+    /// The argument `big` of the C calls.
+    fn is_big(self) -> bool {
+        self == ByteOrder::Big
+    }
+}
+
 /// The version of this wrapper: major × 1,000,000 + minor × 1,000 + patch.
-pub const VERSION: u32 = 5_001;
+pub const VERSION: u32 = 6_000;
 
 /// The longest table that is read or applied, in bytes.
 pub const INPUT_LIMIT: usize = 134_217_728;
@@ -72,14 +89,20 @@ pub fn need(answer: Result<usize, Refusal>) -> Result<u64, Refusal> {
 // apart from the other slices and from other threads, and `&` keeps the rest
 // from being written.
 
-/// Reads a RELR table. Offsets may repeat or go back.
+/// Reads a RELR table with words in `order`. Offsets may repeat or go back.
 ///
 /// Refuses [`Kind::Class`], [`Kind::Limit`], [`Kind::Missing`], then the first
 /// of [`Kind::Order`] and [`Kind::Space`] along the table, then [`Kind::Room`].
-pub fn relr_read(class: u32, table: &[u8], offsets: &mut [u64]) -> Result<usize, Refusal> {
+pub fn relr_read(
+    class: u32,
+    order: ByteOrder,
+    table: &[u8],
+    offsets: &mut [u64],
+) -> Result<usize, Refusal> {
     unsafe {
         ffi::reloc_relr_read(
             class,
+            order.is_big(),
             table.as_ptr(),
             table.len(),
             offsets.as_mut_ptr(),
@@ -89,15 +112,21 @@ pub fn relr_read(class: u32, table: &[u8], offsets: &mut [u64]) -> Result<usize,
     .result()
 }
 
-/// Writes a strictly increasing list of even offsets as a RELR table, the
-/// shortest that reads as this list.
+/// Writes a strictly increasing list of even offsets as a RELR table with words
+/// in `order`, the shortest that reads as this list.
 ///
 /// Refuses [`Kind::Class`], [`Kind::Limit`], then the first of [`Kind::Odd`],
 /// [`Kind::Space`] and [`Kind::Order`] along the list, then [`Kind::Room`].
-pub fn relr_write(class: u32, offsets: &[u64], table: &mut [u8]) -> Result<usize, Refusal> {
+pub fn relr_write(
+    class: u32,
+    order: ByteOrder,
+    offsets: &[u64],
+    table: &mut [u8],
+) -> Result<usize, Refusal> {
     unsafe {
         ffi::reloc_relr_write(
             class,
+            order.is_big(),
             offsets.as_ptr(),
             offsets.len(),
             table.as_mut_ptr(),
@@ -108,7 +137,7 @@ pub fn relr_write(class: u32, offsets: &[u64], table: &mut [u8]) -> Result<usize
 }
 
 /// Adds `base` to the image's word at each offset of a RELR table, in order,
-/// wrapping at W bits.
+/// wrapping at W bits. `order` is that of the table's words and of the image's.
 ///
 /// `start` is the address of the image's first byte, such as the one that a
 /// module's first segment is linked at: an offset minus `start` is an index into
@@ -121,16 +150,23 @@ pub fn relr_write(class: u32, offsets: &[u64], table: &mut [u8]) -> Result<usize
 /// [`Kind::Outside`].
 ///
 /// ```
-/// use reloc::relr_apply;
+/// use reloc::{ByteOrder, relr_apply};
 ///
 /// // The addresses 0x1000 and 0x1008, of a module that is linked at 0x1000.
 /// let table = [0x1000u64.to_le_bytes(), 0x1008u64.to_le_bytes()].concat();
 /// let mut image = [0; 16];
-/// assert_eq!(relr_apply(8, &table, 5, 0x1000, &mut image), Ok(2));
+/// assert_eq!(relr_apply(8, ByteOrder::Little, &table, 5, 0x1000, &mut image), Ok(2));
 /// assert_eq!((image[0], image[8]), (5, 5));
+///
+/// // The same module for a controller that stores words high byte first.
+/// let table = [0x1000u64.to_be_bytes(), 0x1008u64.to_be_bytes()].concat();
+/// let mut image = [0; 16];
+/// assert_eq!(relr_apply(8, ByteOrder::Big, &table, 5, 0x1000, &mut image), Ok(2));
+/// assert_eq!((image[7], image[15]), (5, 5));
 /// ```
 pub fn relr_apply(
     class: u32,
+    order: ByteOrder,
     table: &[u8],
     base: u64,
     start: u64,
@@ -139,6 +175,7 @@ pub fn relr_apply(
     unsafe {
         ffi::reloc_relr_apply(
             class,
+            order.is_big(),
             table.as_ptr(),
             table.len(),
             base,

@@ -1,5 +1,6 @@
 //! Tables worked by hand, run through the library.
 
+use reloc::ByteOrder::{self, Big, Little};
 use reloc::{
     Kind, Refusal, apa1_read, apa1_write, apr1_read, apr1_write, relleb_read, relleb_write,
     relr_apply, relr_read, relr_write,
@@ -13,27 +14,38 @@ fn needs(need: u64) -> Result<usize, Refusal> {
     Err(Refusal { number: 9, place: 0, need })
 }
 
-fn bytes(class: u32, words: &[u64]) -> Vec<u8> {
-    words.iter().flat_map(|word| word.to_le_bytes()[..class as usize].to_vec()).collect()
+const ORDERS: [ByteOrder; 2] = [Little, Big];
+
+fn bytes(class: u32, order: ByteOrder, words: &[u64]) -> Vec<u8> {
+    let size = class as usize;
+    let word = |word: &u64| match order {
+        Little => word.to_le_bytes()[..size].to_vec(),
+        Big => word.to_be_bytes()[8 - size..].to_vec(),
+    };
+    words.iter().flat_map(word).collect()
 }
 
-/// Words read as the list.
+/// Words read as the list, in both orders.
 fn relr_reads(class: u32, words: &[u64], list: &[u64]) {
-    let table = bytes(class, words);
-    let mut got = vec![0; list.len()];
-    assert_eq!(relr_read(class, &table, &mut got), Ok(list.len()));
-    assert_eq!(got, list);
-    assert_eq!(relr_read(class, &table, &mut got[1..]), needs(list.len() as u64));
+    for order in ORDERS {
+        let table = bytes(class, order, words);
+        let mut got = vec![0; list.len()];
+        assert_eq!(relr_read(class, order, &table, &mut got), Ok(list.len()));
+        assert_eq!(got, list);
+        assert_eq!(relr_read(class, order, &table, &mut got[1..]), needs(list.len() as u64));
+    }
 }
 
-/// Words read as the list, and the list written as the words.
+/// Words read as the list, and the list written as the words, in both orders.
 fn relr_both_ways(class: u32, list: &[u64], words: &[u64]) {
     relr_reads(class, words, list);
-    let table = bytes(class, words);
-    let mut made = vec![0; table.len()];
-    assert_eq!(relr_write(class, list, &mut made[1..]), needs(table.len() as u64));
-    assert_eq!(relr_write(class, list, &mut made), Ok(table.len()));
-    assert_eq!(made, table);
+    for order in ORDERS {
+        let table = bytes(class, order, words);
+        let mut made = vec![0; table.len()];
+        assert_eq!(relr_write(class, order, list, &mut made[1..]), needs(table.len() as u64));
+        assert_eq!(relr_write(class, order, list, &mut made), Ok(table.len()));
+        assert_eq!(made, table);
+    }
 }
 
 /// Numbers in a table: A as APR1's first offset, B as an APA1 addend.
@@ -95,18 +107,26 @@ fn p() {
 
 #[test]
 fn j() {
-    let mut image = [0xFF; 8];
-    assert_eq!(relr_apply(8, &[0; 8], 1, 0, &mut image), Ok(1));
-    assert_eq!(image, [0; 8]);
-    assert_eq!(relr_apply(4, &[0; 4], 1 << 32, 0, &mut image), refused(15, 0));
+    for order in ORDERS {
+        let mut image = [0xFF; 8];
+        assert_eq!(relr_apply(8, order, &[0; 8], 1, 0, &mut image), Ok(1));
+        assert_eq!(image, [0; 8]);
+        assert_eq!(relr_apply(4, order, &[0; 4], 1 << 32, 0, &mut image), refused(15, 0));
+    }
+}
+
+/// The answer of reading one word of class 8, and its offset or 0.
+fn relr_word(order: ByteOrder, word: u64) -> (Result<usize, Refusal>, [u64; 1]) {
+    let mut list = [0];
+    (relr_read(8, order, &bytes(8, order, &[word]), &mut list), list)
 }
 
 #[test]
 fn k() {
-    let mut list = [0];
-    assert_eq!(relr_read(8, &(u64::MAX - 7).to_le_bytes(), &mut list), Ok(1));
-    assert_eq!(list, [u64::MAX - 7]);
-    assert_eq!(relr_read(8, &(u64::MAX - 5).to_le_bytes(), &mut list), refused(7, 0));
+    for order in ORDERS {
+        assert_eq!(relr_word(order, u64::MAX - 7), (Ok(1), [u64::MAX - 7]));
+        assert_eq!(relr_word(order, u64::MAX - 5), (refused(7, 0), [0]));
+    }
 }
 
 #[test]
@@ -120,21 +140,46 @@ fn l() {
 
 #[test]
 fn m() {
-    assert_eq!(relr_read(8, &1u64.to_le_bytes(), &mut [0; 64]), refused(6, 0));
+    for order in ORDERS {
+        assert_eq!(relr_word(order, 1), (refused(6, 0), [0]));
+    }
 }
 
 #[test]
 fn n() {
-    let mut image = [0; 8];
-    assert_eq!(relr_apply(8, &0u64.to_le_bytes(), 1, 0, &mut image), Ok(1));
-    assert_eq!(relr_apply(8, &2u64.to_le_bytes(), 1, 0, &mut image), refused(12, 0));
-    assert_eq!(image, [1, 0, 0, 0, 0, 0, 0, 0]);
+    for (order, one) in [(Little, [1, 0, 0, 0, 0, 0, 0, 0]), (Big, [0, 0, 0, 0, 0, 0, 0, 1])] {
+        let mut image = [0; 8];
+        let mut apply = |word| relr_apply(8, order, &bytes(8, order, &[word]), 1, 0, &mut image);
+        assert_eq!((apply(0), apply(2)), (Ok(1), refused(12, 0)));
+        assert_eq!(image, one);
+    }
 }
 
-/// Applies words to eight bytes FF; the answer, and what is left of them.
+/// One table and one image told to be in one order and in the other.
+#[test]
+fn the_other_order() {
+    let table = [0, 0, 1, 0, 0x80, 0, 0, 1];
+    for (order, list) in [(Big, [0x100, 0x17C]), (Little, [0x1_0000, 0x0100_0080])] {
+        let mut got = [0; 2];
+        assert_eq!(relr_read(4, order, &table, &mut got), Ok(2));
+        assert_eq!(got, list);
+    }
+    for (order, carried) in [(Big, [0, 0, 1, 0]), (Little, [1, 0, 0, 0xFF])] {
+        let mut image = [0, 0, 0, 0xFF];
+        assert_eq!(relr_apply(4, order, &[0; 4], 1, 0, &mut image), Ok(1));
+        assert_eq!(image, carried);
+    }
+}
+
+/// Applies words to eight bytes FF, the same in both orders; the answer, and what
+/// is left of them.
 fn applied(class: u32, words: &[u64], start: u64) -> (Result<usize, Refusal>, [u8; 8]) {
-    let mut image = [0xFF; 8];
-    (relr_apply(class, &bytes(class, words), 1, start, &mut image), image)
+    let [little, big] = ORDERS.map(|order| {
+        let mut image = [0xFF; 8];
+        (relr_apply(class, order, &bytes(class, order, words), 1, start, &mut image), image)
+    });
+    assert_eq!(little, big);
+    little
 }
 
 /// An offset minus the start is the index into the image.
@@ -183,11 +228,11 @@ fn the_guilty_byte() {
 
 #[test]
 fn a_refusal_tells_its_kind() {
-    let refusal = relr_write(8, &[4, 5], &mut []).unwrap_err();
+    let refusal = relr_write(8, Little, &[4, 5], &mut []).unwrap_err();
     assert_eq!(refusal.kind(), Kind::Odd);
     assert_eq!(refusal.to_string(), "refused 10 at 1: odd offset");
-    let refusal = relr_write(8, &[4], &mut []).unwrap_err();
+    let refusal = relr_write(8, Big, &[4], &mut []).unwrap_err();
     assert_eq!(refusal.to_string(), "refused 9 at 0: too little room, 8 needed");
-    let refusal = relr_apply(8, &[0; 8], 0, 1, &mut [0; 16]).unwrap_err();
+    let refusal = relr_apply(8, Little, &[0; 8], 0, 1, &mut [0; 16]).unwrap_err();
     assert_eq!(refusal.to_string(), "refused 12 at 0: word not inside the image");
 }

@@ -1,6 +1,7 @@
 //! The wrapper's version, numbers and limits held to the library's: a number by a
 //! call that must be refused with it, a limit by calls at it and one over it.
 
+use reloc::ByteOrder::{Big, Little};
 use reloc::{
     INPUT_LIMIT, Kind, LIST_LIMIT, Refusal, VERSION, apa1_read, apa1_write, apr1_read, apr1_write,
     need, relleb_read, relleb_write, relr_apply, relr_read, relr_write, version,
@@ -22,23 +23,23 @@ fn versions() {
 #[test]
 fn each_number_has_its_name() {
     let refused = [
-        (1, Kind::Class, relr_read(5, &[], &mut [])),
+        (1, Kind::Class, relr_read(5, Little, &[], &mut [])),
         (2, Kind::Limit, apr1_read(&vec![0; INPUT_LIMIT + 1], &mut [])),
         (3, Kind::Identifier, apr1_read(b"APA1", &mut [])),
-        (4, Kind::Missing, relr_read(8, &[0; 4], &mut [])),
+        (4, Kind::Missing, relr_read(8, Little, &[0; 4], &mut [])),
         (5, Kind::Width, apa1_read(b"APA1\x40", &mut [], &mut [])),
-        (6, Kind::Order, relr_read(4, &[1, 0, 0, 0], &mut [])),
+        (6, Kind::Order, relr_read(4, Little, &[1, 0, 0, 0], &mut [])),
         (6, Kind::Order, apr1_write(&[8, 4], &mut [])),
-        (7, Kind::Space, relr_read(4, &[0xFE, 0xFF, 0xFF, 0xFF], &mut [])),
+        (7, Kind::Space, relr_read(4, Little, &[0xFE, 0xFF, 0xFF, 0xFF], &mut [])),
         (8, Kind::Trailing, apa1_read(b"APA1\0\0", &mut [], &mut [])),
-        (9, Kind::Room, relr_read(8, &[0; 8], &mut [])),
-        (10, Kind::Odd, relr_write(8, &[1], &mut [])),
+        (9, Kind::Room, relr_read(8, Little, &[0; 8], &mut [])),
+        (10, Kind::Odd, relr_write(8, Little, &[1], &mut [])),
         (11, Kind::Columns, apa1_read(&[], &mut [0], &mut [])),
-        (12, Kind::Outside, relr_apply(8, &[0; 8], 0, 0, &mut [0; 7])),
-        (12, Kind::Outside, relr_apply(8, &[0; 8], 0, 1, &mut [0; 16])),
+        (12, Kind::Outside, relr_apply(8, Little, &[0; 8], 0, 0, &mut [0; 7])),
+        (12, Kind::Outside, relr_apply(8, Little, &[0; 8], 0, 1, &mut [0; 16])),
         (13, Kind::Empty, apr1_write(&[], &mut [])),
         (14, Kind::Addend, relleb_write(4, &[0], &[0], &[0], &[1 << 31], &mut [])),
-        (15, Kind::Base, relr_apply(4, &[], 1 << 32, 0, &mut [])),
+        (15, Kind::Base, relr_apply(4, Little, &[], 1 << 32, 0, &mut [])),
     ];
     for (number, kind, answer) in refused {
         let refusal = answer.unwrap_err();
@@ -52,12 +53,15 @@ fn beyond(over: usize) -> Vec<Answer> {
     let (o, t) = (vec![0; LIST_LIMIT + over], vec![0; LIST_LIMIT + over]);
     let a = vec![0; LIST_LIMIT + over];
     vec![
-        relr_read(8, &table, &mut []),
-        relr_apply(8, &table, 0, 0, &mut []),
+        relr_read(8, Little, &table, &mut []),
+        relr_read(8, Big, &table, &mut []),
+        relr_apply(8, Little, &table, 0, 0, &mut []),
+        relr_apply(8, Big, &table, 0, 0, &mut []),
         apr1_read(&table, &mut []),
         apa1_read(&table, &mut [], &mut []),
         relleb_read(8, &table, &mut [], &mut [], &mut [], &mut []),
-        relr_write(8, &o, &mut []),
+        relr_write(8, Little, &o, &mut []),
+        relr_write(8, Big, &o, &mut []),
         apr1_write(&o, &mut []),
         apa1_write(&o, &a, &mut []),
         relleb_write(8, &o, &t, &t, &a, &mut []),
@@ -76,8 +80,10 @@ fn limits() {
 
 #[test]
 fn needs() {
-    assert_eq!(need(relr_write(8, &[], &mut [])), Ok(0));
-    assert_eq!(need(relr_write(8, &[8, 16], &mut [])), Ok(16));
+    for order in [Little, Big] {
+        assert_eq!(need(relr_write(8, order, &[], &mut [])), Ok(0));
+        assert_eq!(need(relr_write(8, order, &[8, 16], &mut [])), Ok(16));
+    }
     assert_eq!(need(apa1_write(&[], &[], &mut [])), Ok(5));
     assert_eq!(need(apr1_write(&[], &mut [])).map_err(|refusal| refusal.kind()), Err(Kind::Empty));
 }

@@ -1,15 +1,18 @@
--- Document 01's starred cases and its case N, and document 02's §1: one table, and one claim, that each of its rows holds.
+-- Document 01's starred cases and its case N, RELR's in both byte orders, and document 02's §1 and §9: one table, and one claim, that each of its rows holds.
 -- Assumes nothing.
 use Prim.Native.Nat.{ℕ}
 use mathlib.Core.Path.{_≡_, refl}
 use mathlib.Core.List.{List, [], _∷_}
 use lib.IntN.{ℤ, pos, negsuc}
 use lib.ListN.{length}
+use Rattle.word.specs.declared.Size.{Size}
+use Rattle.word.specs.declared.Size.the-variants.{Four, Eight}
+use Rattle.word.specs.declared.ByteOrder.{ByteOrder}
+use Rattle.word.specs.declared.ByteOrder.the-variants.{Little, Big}
 use Rattle.word.specs.declared.Class.{Class}
-use Rattle.word.specs.declared.Class.the-variants.{Four, Eight}
 use Rattle.word.specs.declared.Named.the-variants.{Is}
-use Rattle.word.specs.Class.{bytesOf}
-use Rattle.word.specs.Word.{valueOf, bytesIn, wordAt, withWord, firstWords, wordsOf, bytesOfWords}
+use Rattle.word.specs.Class.{classIn}
+use Rattle.word.specs.Word.{valueOf, bytesIn, arranged, wordAt, withWord, firstWords, wordsOf, bytesOfWords}
 use Rattle.relr_table.specs.Words as relr
 use Rattle.relr_table.specs.Table.{parse, decode, checked, build, encode, leading, contained, targets, indexes, added, patched}
 use Rattle.relr_table.specs.Contract.{changed, imageAfter}
@@ -27,35 +30,58 @@ use Rattle.apr1_table.specs.Table as apr1
 use Rattle.apa1_table.specs.Table as apa1
 use Rattle.relleb_table.specs.Table as relleb
 
--- a row: what is written and what it stands for, to be read and to be written; or a table that is applied: its words, the base, the start, the
--- image before, the outcome and the image after
+-- a row: what is written and what it stands for, to be read and to be written; the bytes of words, low byte first and high byte first; a table that
+-- is applied: its words, the base, the start, the words of the image before, the outcome and the words of the image after; or the bytes of a table
+-- that is read in the other order, and what it reads as
 pub data Case : Type 0 where
   unsignedNumber : ℕ → List ℕ → ℕ → Case
   signedNumber : ℕ → List ℕ → ℤ → Case
-  relrTable : Class → List ℕ → List ℕ → Case
-  relrApplied : Class → List ℕ → ℕ → ℕ → List ℕ → Outcome (List ℕ) → List ℕ → Case
+  relrTable : Size → List ℕ → List ℕ → Case
+  relrLaid : Size → List ℕ → List ℕ → List ℕ → Case
+  relrApplied : Size → List ℕ → ℕ → ℕ → List ℕ → Outcome (List ℕ) → List ℕ → Case
+  relrOther : Class → List ℕ → Outcome (List ℕ) → Case
   apr1Table : List ℕ → List ℕ → Case
   apa1Table : List ℕ → List apa1.Row → Case
   rellebTable : ℕ → List ℕ → List relleb.Row → Case
 
--- what a row says: the bytes, at a width, read as the value, and are its shortest form; a table's bytes or words decode to the list, and are
--- its table; a table that is applied has that outcome, and makes of the one image the other
+-- in an order, the bytes of a table's words decode to the offsets, and are their table
+pub Packed : Size → List ℕ → List ℕ → ByteOrder → Type 0
+Packed z offsets words order =
+    let k = classIn z order in
+    (decode k (bytesOfWords k words) ≡ accepted offsets) × (encode k offsets ≡ accepted (bytesOfWords k words))
+
+-- in an order, a table that is applied has that outcome, and makes of the one image the other
+pub Moved : Size → List ℕ → ℕ → ℕ → List ℕ → Outcome (List ℕ) → List ℕ → ByteOrder → Type 0
+Moved z words base start old o new order =
+    let k = classIn z order in
+    (targets k (bytesOfWords k words) base start (length (bytesOfWords k old)) ≡ o)
+    × (imageAfter (Is z) order (bytesOfWords k words) base start (bytesOfWords k old) ≡ bytesOfWords k new)
+
+-- in each order
+abbrev pub InBoth : (ByteOrder → Type 0) → Type 0
+InBoth P = P Little × P Big
+
+-- what a row says: the bytes, at a width, read as the value, and are its shortest form; a table's bytes, or its words in each order, decode to the
+-- list, and are its table; in each order a table that is applied has that outcome, and makes of the one image the other
 pub Holds : Case → Type 0
 Holds (unsignedNumber width bytes v) = (readUnsigned width bytes 0 ≡ UValue v (length bytes)) × (shortUnsigned v ≡ bytes)
 Holds (signedNumber width bytes z) = (readSigned width bytes 0 ≡ SValue z (length bytes)) × (shortSigned z ≡ bytes)
-Holds (relrTable k offsets words) = (decode k (bytesOfWords (bytesOf k) words) ≡ accepted offsets) × (encode k offsets ≡ accepted (bytesOfWords (bytesOf k) words))
-Holds (relrApplied k words base start old o new) =
-    (targets k (bytesOfWords (bytesOf k) words) base start (length old) ≡ o) × (imageAfter (Is k) (bytesOfWords (bytesOf k) words) base start old ≡ new)
+Holds (relrTable z offsets words) = InBoth (Packed z offsets words)
+Holds (relrLaid z words low high) = (bytesOfWords (classIn z Little) words ≡ low) × (bytesOfWords (classIn z Big) words ≡ high)
+Holds (relrApplied z words base start old o new) = InBoth (Moved z words base start old o new)
+Holds (relrOther k bytes o) = decode k bytes ≡ o
 Holds (apr1Table bytes l) = (apr1.decode bytes ≡ accepted l) × (apr1.encode l ≡ accepted bytes)
 Holds (apa1Table bytes l) = (apa1.decode bytes ≡ accepted l) × (apa1.encode l ≡ accepted bytes)
 Holds (rellebTable width bytes l) = (relleb.decode width bytes ≡ accepted l) × (relleb.encode width l ≡ accepted bytes)
 
--- images of eight bytes
-abbrev full : List ℕ
-full = 0xFF ∷ 0xFF ∷ 0xFF ∷ 0xFF ∷ 0xFF ∷ 0xFF ∷ 0xFF ∷ 0xFF ∷ []
+-- images of eight bytes: their words
+abbrev full : Size → List ℕ
+full Four = 0xFFFFFFFF ∷ 0xFFFFFFFF ∷ []
+full Eight = 0xFFFFFFFFFFFFFFFF ∷ []
 
-abbrev zeros : List ℕ
-zeros = 0 ∷ 0 ∷ 0 ∷ 0 ∷ 0 ∷ 0 ∷ 0 ∷ 0 ∷ []
+abbrev zeros : Size → List ℕ
+zeros Four = 0 ∷ 0 ∷ []
+zeros Eight = 0 ∷ []
 
 -- the cases
 pub worked : List Case
@@ -76,20 +102,27 @@ worked =
     -- G
     ∷ relrTable Eight (0x10 ∷ 0x14 ∷ 0x18 ∷ 0x20 ∷ []) (0x10 ∷ 0x14 ∷ 0x18 ∷ 0x3 ∷ [])
     -- J
-    ∷ relrApplied Eight (0 ∷ []) 1 0 full (accepted (0 ∷ [])) zeros
+    ∷ relrApplied Eight (0 ∷ []) 1 0 (full Eight) (accepted (0 ∷ [])) (zeros Eight)
     -- N, both
-    ∷ relrApplied Eight (0 ∷ []) 2 0 zeros (accepted (0 ∷ [])) (2 ∷ 0 ∷ 0 ∷ 0 ∷ 0 ∷ 0 ∷ 0 ∷ 0 ∷ [])
-    ∷ relrApplied Eight (2 ∷ []) 2 0 zeros (refused Outside 0) zeros
+    ∷ relrApplied Eight (0 ∷ []) 2 0 (zeros Eight) (accepted (0 ∷ [])) (2 ∷ [])
+    ∷ relrApplied Eight (2 ∷ []) 2 0 (zeros Eight) (refused Outside 0) (zeros Eight)
     -- §1: a module linked at 0x1000; an offset just below the start
-    ∷ relrApplied Eight (0x1000 ∷ []) 1 0x1000 full (accepted (0x1000 ∷ [])) zeros
-    ∷ relrApplied Eight (0x1000 ∷ 0xFFE ∷ []) 1 0x1000 full (refused Outside 1) full
+    ∷ relrApplied Eight (0x1000 ∷ []) 1 0x1000 (full Eight) (accepted (0x1000 ∷ [])) (zeros Eight)
+    ∷ relrApplied Eight (0x1000 ∷ 0xFFE ∷ []) 1 0x1000 (full Eight) (refused Outside 1) (full Eight)
     -- the last word of the image, and one that ends two bytes beyond
-    ∷ relrApplied Four (0x1000 ∷ 0x3 ∷ []) 1 0x1000 full (accepted (0x1000 ∷ 0x1004 ∷ [])) zeros
-    ∷ relrApplied Four (0x1006 ∷ []) 1 0x1000 full (refused Outside 0) full
+    ∷ relrApplied Four (0x1000 ∷ 0x3 ∷ []) 1 0x1000 (full Four) (accepted (0x1000 ∷ 0x1004 ∷ [])) (zeros Four)
+    ∷ relrApplied Four (0x1006 ∷ []) 1 0x1000 (full Four) (refused Outside 0) (full Four)
     -- a start near 2^64; one past the space of class 4, and there no offsets
-    ∷ relrApplied Eight (0xFFFFFFFFFFFFFFF8 ∷ []) 1 0xFFFFFFFFFFFFFFF8 full (accepted (0xFFFFFFFFFFFFFFF8 ∷ [])) zeros
-    ∷ relrApplied Four (0 ∷ []) 1 0xFFFFFFFFFFFFFFFF full (refused Outside 0) full
-    ∷ relrApplied Four [] 1 0xFFFFFFFFFFFFFFFF full (accepted []) full
+    ∷ relrApplied Eight (0xFFFFFFFFFFFFFFF8 ∷ []) 1 0xFFFFFFFFFFFFFFF8 (full Eight) (accepted (0xFFFFFFFFFFFFFFF8 ∷ [])) (zeros Eight)
+    ∷ relrApplied Four (0 ∷ []) 1 0xFFFFFFFFFFFFFFFF (full Four) (refused Outside 0) (full Four)
+    ∷ relrApplied Four [] 1 0xFFFFFFFFFFFFFFFF (full Four) (accepted []) (full Four)
+    -- §9: F's words low byte first and high byte first; C's words of eight bytes; F high byte first, read low byte first; C so
+    ∷ relrLaid Four (0x100 ∷ 0x80000001 ∷ []) (0 ∷ 1 ∷ 0 ∷ 0 ∷ 1 ∷ 0 ∷ 0 ∷ 0x80 ∷ []) (0 ∷ 0 ∷ 1 ∷ 0 ∷ 0x80 ∷ 0 ∷ 0 ∷ 1 ∷ [])
+    ∷ relrLaid Eight (0x2000 ∷ []) (0 ∷ 0x20 ∷ 0 ∷ 0 ∷ 0 ∷ 0 ∷ 0 ∷ 0 ∷ []) (0 ∷ 0 ∷ 0 ∷ 0 ∷ 0 ∷ 0 ∷ 0x20 ∷ 0 ∷ [])
+    ∷ relrOther (classIn Four Little) (0 ∷ 0 ∷ 1 ∷ 0 ∷ 0x80 ∷ 0 ∷ 0 ∷ 1 ∷ []) (accepted (0x10000 ∷ 0x1000080 ∷ []))
+    ∷ relrOther (classIn Eight Little) (0 ∷ 0 ∷ 0 ∷ 0 ∷ 0 ∷ 0 ∷ 0x20 ∷ 0 ∷ 0 ∷ 0 ∷ 0 ∷ 0 ∷ 0 ∷ 0 ∷ 0 ∷ 0xF ∷ []) (accepted (0x20000000000000 ∷ 0xF00000000000000 ∷ []))
+    -- an addition that carries from one byte into the next
+    ∷ relrApplied Four (0 ∷ []) 1 0 (0xFF ∷ []) (accepted (0 ∷ [])) (0x100 ∷ [])
     -- H
     ∷ apr1Table (0x41 ∷ 0x50 ∷ 0x52 ∷ 0x31 ∷ 0x02 ∷ 0x80 ∷ 0x20 ∷ 0x02 ∷ 0x04 ∷ 0x01 ∷ 0x08 ∷ []) (0x1000 ∷ 0x1004 ∷ 0x1008 ∷ 0x1010 ∷ [])
     -- I
@@ -100,8 +133,8 @@ worked =
 
 -- each of them holds
 pub claim : Each Holds worked
-unfolding Holds worked inputLimit listLimit readUnsigned readSigned raw signed short shortBy before after
-    valueOf bytesIn wordAt withWord firstWords wordsOf bytesOfWords
+unfolding Holds Packed Moved worked inputLimit listLimit readUnsigned readSigned raw signed short shortBy before after
+    valueOf bytesIn arranged wordAt withWord firstWords wordsOf bytesOfWords
     relr.marked relr.fit relr.anchored relr.read relr.falls relr.bit relr.word relr.first relr.write relr.table
     parse decode checked build encode leading contained targets indexes added patched changed imageAfter
     startsWith stepThen records counted putThen puts residue signedIn same
@@ -111,4 +144,4 @@ unfolding Holds worked inputLimit listLimit readUnsigned readSigned raw signed s
     relleb.withAddend relleb.withSymbol relleb.withType relleb.withOffset relleb.stepAt relleb.parse relleb.decode relleb.fieldOf relleb.symbolBytes
     relleb.typeBytes relleb.fieldBytes relleb.entryBytes relleb.putOf relleb.build relleb.encode
 claim =
-    ((refl, refl), ((refl, refl), ((refl, refl), ((refl, refl), ((refl, refl), ((refl, refl), ((refl, refl), ((refl, refl), ((refl, refl), ((refl, refl), ((refl, refl), ((refl, refl), ((refl, refl), ((refl, refl), ((refl, refl), ((refl, refl), ((refl, refl), ((refl, refl), ((refl, refl), ((refl, refl), ((refl, refl), tt)))))))))))))))))))))
+    ((refl, refl), ((refl, refl), (((refl, refl), (refl, refl)), (((refl, refl), (refl, refl)), (((refl, refl), (refl, refl)), (((refl, refl), (refl, refl)), (((refl, refl), (refl, refl)), (((refl, refl), (refl, refl)), (((refl, refl), (refl, refl)), (((refl, refl), (refl, refl)), (((refl, refl), (refl, refl)), (((refl, refl), (refl, refl)), (((refl, refl), (refl, refl)), (((refl, refl), (refl, refl)), (((refl, refl), (refl, refl)), (((refl, refl), (refl, refl)), (((refl, refl), (refl, refl)), (((refl, refl), (refl, refl)), ((refl, refl), ((refl, refl), (refl, (refl, (((refl, refl), (refl, refl)), ((refl, refl), ((refl, refl), ((refl, refl), tt))))))))))))))))))))))))))

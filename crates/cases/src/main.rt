@@ -8,4 +8,5 @@ fn main() {
     leb::run();
     offsets::run();
     tables::run();
+    offsets::run_big();
 }

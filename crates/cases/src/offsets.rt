@@ -1,6 +1,7 @@
 // RELR: cases of document 01 at the edges of the address space and of an image, and bad input.
 use crate::text;
 use answer::Answer;
+use word::ByteOrder;
 
 fn answer_of(a: Answer) {
     text::put(b" number ");
@@ -11,57 +12,77 @@ fn answer_of(a: Answer) {
     text::number(a.count);
 }
 
-fn column(values: &[u64]) {
+fn items(values: &[u64]) {
     let mut i: usize = 0;
     while i < values.len() {
         text::item(values[i]);
         i += 1;
     }
+}
+
+fn class_of(class: u32, order: ByteOrder) {
+    text::put(b" class ");
+    text::number(class as u64);
+    match order {
+        ByteOrder::Little => {}
+        ByteOrder::Big => text::put(b" big-endian"),
+    }
+}
+
+// Reads a table into a column.
+fn read_into(class: u32, order: ByteOrder, table: &[u8], offsets: &mut [u64]) {
+    text::put(b"relr read");
+    class_of(class, order);
+    text::put(b":");
+    text::bytes(table, table.len());
+    answer_of(relr::read(class, order, table, &mut *offsets));
+    items(offsets);
     text::put(b"\n");
 }
 
-// Reads a table into a column of two.
-fn read(class: u32, table: &[u8]) {
-    let mut offsets = [7u64; 2];
-    text::put(b"relr read class ");
-    text::number(class as u64);
-    text::put(b":");
-    text::bytes(table, table.len());
-    answer_of(relr::read(class, table, &mut offsets));
-    column(&offsets);
-}
-
-// Applies a table to an image of eight bytes.
-fn apply(class: u32, table: &[u8], base: u64, start: u64) {
-    let mut image = [255u8; 8];
-    text::put(b"relr apply class ");
-    text::number(class as u64);
+// Applies a table to an image.
+fn apply_to(class: u32, order: ByteOrder, table: &[u8], base: u64, start: u64, image: &mut [u8]) {
+    text::put(b"relr apply");
+    class_of(class, order);
     text::put(b" base ");
     text::number(base);
     text::put(b" start ");
     text::number(start);
     text::put(b":");
     text::bytes(table, table.len());
-    answer_of(relr::apply(class, table, base, start, &mut image));
+    answer_of(relr::apply(class, order, table, base, start, &mut *image));
     text::put(b" image");
-    text::bytes(&image, 8);
+    text::bytes(image, image.len());
     text::put(b"\n");
 }
 
-// Writes two offsets into ten bytes.
+// Writes offsets into a table.
+fn write_into(class: u32, order: ByteOrder, offsets: &[u64], table: &mut [u8]) {
+    text::put(b"relr write");
+    class_of(class, order);
+    text::put(b":");
+    items(offsets);
+    answer_of(relr::write(class, order, offsets, &mut *table));
+    text::put(b" table");
+    text::bytes(table, table.len());
+    text::put(b"\n");
+}
+
+// Low byte first: a table into a column of two, a table to an image of eight bytes, and two offsets into ten bytes.
+fn read(class: u32, table: &[u8]) {
+    let mut offsets = [7u64; 2];
+    read_into(class, ByteOrder::Little, table, &mut offsets);
+}
+
+fn apply(class: u32, table: &[u8], base: u64, start: u64) {
+    let mut image = [255u8; 8];
+    apply_to(class, ByteOrder::Little, table, base, start, &mut image);
+}
+
 fn write(class: u32, x: u64, y: u64) {
     let offsets = [x, y];
     let mut table = [7u8; 10];
-    text::put(b"relr write class ");
-    text::number(class as u64);
-    text::put(b": ");
-    text::number(x);
-    text::put(b" ");
-    text::number(y);
-    answer_of(relr::write(class, &offsets, &mut table));
-    text::put(b" table");
-    text::bytes(&table, 10);
-    text::put(b"\n");
+    write_into(class, ByteOrder::Little, &offsets, &mut table);
 }
 
 fn reads() {
@@ -124,4 +145,37 @@ pub fn run() {
     reads();
     applies();
     writes();
+}
+
+// High byte first: offsets written into 16 bytes, and a table read into a column of four.
+fn write_big(class: u32, offsets: &[u64]) {
+    let mut table = [7u8; 16];
+    write_into(class, ByteOrder::Big, offsets, &mut table);
+}
+
+fn read_big(class: u32, table: &[u8]) {
+    let mut offsets = [7u64; 4];
+    read_into(class, ByteOrder::Big, table, &mut offsets);
+}
+
+// Cases C, F and J high byte first, and an addition that carries into the next byte.
+pub fn run_big() {
+    write_big(8, &[8192, 8200, 8208, 8216]);
+    read_big(
+        8,
+        b"\x00\x00\x00\x00\x00\x00\x20\x00\x00\x00\x00\x00\x00\x00\x00\x0f",
+    );
+    write_big(4, &[256, 380]);
+    read_big(4, b"\x00\x00\x01\x00\x80\x00\x00\x01");
+    let mut full = [255u8; 8];
+    apply_to(
+        8,
+        ByteOrder::Big,
+        b"\x00\x00\x00\x00\x00\x00\x00\x00",
+        1,
+        0,
+        &mut full,
+    );
+    let mut carried = [0u8, 0, 0, 255];
+    apply_to(4, ByteOrder::Big, b"\x00\x00\x00\x00", 1, 0, &mut carried);
 }

@@ -21,12 +21,14 @@ use Rattle.answer.specs.Outcome.{Outcome, accepted, refused, inputLimit, listLi
 use Rattle.answer.specs.Said.{Bounded, of-cond, of-accepted}
 use Rattle.records.specs.Columns.Laws.{each-at}
 use Rattle.records.specs.Reading.{records}
+use Rattle.word.specs.declared.Size.{Size}
+use Rattle.word.specs.declared.Size.the-variants.{Four, Eight}
+use Rattle.word.specs.declared.ByteOrder.{ByteOrder}
 use Rattle.word.specs.declared.Class.{Class}
-use Rattle.word.specs.declared.Class.the-variants.{Four, Eight}
 use Rattle.word.specs.declared.Named.{Named}
 use Rattle.word.specs.declared.Named.the-variants.{Is, Unknown}
-use Rattle.word.specs.Class.{bytesOf, bitsOf, windowOf, classOf, inClass}
-use Rattle.word.specs.Class.Laws.{bytes-least, bytes-most}
+use Rattle.word.specs.Class.{sizeOf, widthOf, classIn, bytesOf, windowOf, classOf, inClass}
+use Rattle.word.specs.Class.Laws.{size-most, bytes-least, by-bytes}
 use Rattle.relr_table.specs.Words.{Where}
 use Rattle.relr_table.specs.Table as relr
 use Rattle.relr_table.specs.Contract as relr-contract
@@ -52,12 +54,12 @@ input-fits = omega (arith, input-most)
 list-fits : listLimit < 2 ^ 64
 list-fits = omega (arith, list-small)
 
-relr-offsets-fit : (k : Class) → relrOffsets k < 2 ^ 64
+relr-offsets-fit : (z : Size) → relrOffsets z < 2 ^ 64
 relr-offsets-fit Four = omega (arith, input-most)
 relr-offsets-fit Eight = omega (arith, input-most)
 
-relr-bytes-fit : (k : Class) → relrBytes k ≤ inputLimit
-relr-bytes-fit k = omega (arith, list-most, mul-le-mul-right listLimit (bytes-most k))
+relr-bytes-fit : (z : Size) → relrBytes z ≤ inputLimit
+relr-bytes-fit z = omega (arith, list-most, mul-le-mul-right listLimit (size-most z))
 
 -- ---- once for every call
 module _ {A : Type 0} {P n : ℕ} {r : Answer} (small : P < 2 ^ 64) (few : n < 2 ^ 64) where
@@ -81,8 +83,8 @@ module _ {A : Type 0} {P n : ℕ} {r : Answer} (small : P < 2 ^ 64) (few : n < 2
 bounded-cond : {A : Type 0} {P n : ℕ} (t : Bool) (w : Refusal) (o : Outcome (List A)) → Bounded P n o → Bounded P n (cond t o (refused w 0))
 bounded-cond t w o b = of-cond (Bounded _ _) t o (refused w 0) b (record { place = omega arith; long = tt })
 
-bounded-class : {A : Type 0} (P n : Named → ℕ) (f : Class → Outcome (List A)) → ((k : Class) → Bounded (P (Is k)) (n (Is k)) (f k)) → (m : Named) → Bounded (P m) (n m) (inClass m f)
-bounded-class P n f h (Is k) = h k
+bounded-class : {A : Type 0} (P n : Named → ℕ) (f : Size → Outcome (List A)) → ((z : Size) → Bounded (P (Is z)) (n (Is z)) (f z)) → (m : Named) → Bounded (P m) (n m) (inClass m f)
+bounded-class P n f h (Is z) = h z
 bounded-class P n f h Unknown = record { place = omega arith; long = tt }
 
 -- a write's answer
@@ -95,35 +97,35 @@ module _ (class : ℕ) where
   offsets-fit = go (classOf class)
     where
       go : (m : Named) → inNamed relrOffsets m < 2 ^ 64
-      go (Is k) = relr-offsets-fit k
+      go (Is z) = relr-offsets-fit z
       go Unknown = lit< tt
 
   bytes-readable : inNamed relrBytes (classOf class) ≤ inputLimit
   bytes-readable = go (classOf class)
     where
       go : (m : Named) → inNamed relrBytes m ≤ inputLimit
-      go (Is k) = relr-bytes-fit k
+      go (Is z) = relr-bytes-fit z
       go Unknown = omega arith
 
-  pub relr-read : (s column : List ℕ) {column′ : List ℕ} {r : Answer} → relr-contract.Reads class s column r column′ → Within inputLimit (inNamed relrOffsets (classOf class)) r
+  pub relr-read : (order : ByteOrder) (s column : List ℕ) {column′ : List ℕ} {r : Answer} → relr-contract.Reads class order s column r column′ → Within inputLimit (inNamed relrOffsets (classOf class)) r
   unfolding relr-contract.decoding
-  relr-read s column d =
-      answer-in input-fits offsets-fit (length column) (relr-contract.decoding class s)
-      (bounded-class (λ m. inputLimit) (inNamed relrOffsets) (λ k. relr.decode k s) (λ k. relr-bounds.decode-bounded k s) (classOf class)) (d .answer)
+  relr-read order s column d =
+      answer-in input-fits offsets-fit (length column) (relr-contract.decoding class order s)
+      (bounded-class (λ m. inputLimit) (inNamed relrOffsets) (λ z. relr.decode (classIn z order) s) (λ z. relr-bounds.decode-bounded (classIn z order) s) (classOf class)) (d .answer)
 
-  pub relr-write : (l old : List ℕ) {new : List ℕ} {r : Answer} → relr-contract.Writes class l old r new → Readable listLimit (inNamed relrBytes (classOf class)) r
+  pub relr-write : (order : ByteOrder) (l old : List ℕ) {new : List ℕ} {r : Answer} → relr-contract.Writes class order l old r new → Readable listLimit (inNamed relrBytes (classOf class)) r
   unfolding relr-contract.encoding
-  relr-write l old w =
+  relr-write order l old w =
       readable bytes-readable
-      (answer-in list-fits (omega (arith, bytes-readable, input-most)) (length old) (relr-contract.encoding class l)
-      (bounded-class (λ m. listLimit) (inNamed relrBytes) (λ k. relr.encode k l) (λ k. relr-bounds.encode-bounded k l) (classOf class)) (w .gives .answer))
+      (answer-in list-fits (omega (arith, bytes-readable, input-most)) (length old) (relr-contract.encoding class order l)
+      (bounded-class (λ m. listLimit) (inNamed relrBytes) (λ z. relr.encode (classIn z order) l) (λ z. relr-bounds.encode-bounded (classIn z order) l) (classOf class)) (w .gives .answer))
 
-  pub relr-apply : (s : List ℕ) (base start : ℕ) (old : List ℕ) {new : List ℕ} {r : Answer} → relr-contract.Applies class s base start old r new
+  pub relr-apply : (order : ByteOrder) (s : List ℕ) (base start : ℕ) (old : List ℕ) {new : List ℕ} {r : Answer} → relr-contract.Applies class order s base start old r new
       → Within (inNamed relrOffsets (classOf class)) (inNamed relrOffsets (classOf class)) r
   unfolding relr-contract.applying
-  relr-apply s base start old a =
-      answer-of offsets-fit offsets-fit (relr-contract.applying class s base start (length old))
-      (bounded-class (inNamed relrOffsets) (inNamed relrOffsets) (λ k. relr.targets k s base start (length old)) (λ k. relr-bounds.targets-bounded k s base start (length old)) (classOf class)) (a .answer)
+  relr-apply order s base start old a =
+      answer-of offsets-fit offsets-fit (relr-contract.applying class order s base start (length old))
+      (bounded-class (inNamed relrOffsets) (inNamed relrOffsets) (λ z. relr.targets (classIn z order) s base start (length old)) (λ z. relr-bounds.targets-bounded (classIn z order) s base start (length old)) (classOf class)) (a .answer)
 
 -- ---- APR1
 pub apr1-read : (s column : List ℕ) {column′ : List ℕ} {r : Answer} → Bytes s → apr1-contract.Reads s column r column′ → Within inputLimit apr1Offsets r
@@ -156,8 +158,8 @@ module _ (class : ℕ) where
   relleb-read s os ts ys us bytes d =
       let even = relleb-contract.even (length os) (length ts) (length ys) (length us) in
       answer-in input-fits (omega (arith, input-most)) (length os) (relleb-contract.decoding class s (length os) (length ts) (length ys) (length us))
-      (bounded-class (λ m. inputLimit) (λ m. rellebRecords) (λ k. cond even (relleb.decode (bitsOf k) s) (refused why.Columns 0))
-      (λ k. bounded-cond even why.Columns (relleb.decode (bitsOf k) s) (relleb-bounds.decode-bounded (bitsOf k) s (relleb-laws.class-width k refl .0) bytes)) (classOf class)) (d .answer)
+      (bounded-class (λ m. inputLimit) (λ m. rellebRecords) (λ k. cond even (relleb.decode (widthOf k) s) (refused why.Columns 0))
+      (λ k. bounded-cond even why.Columns (relleb.decode (widthOf k) s) (relleb-bounds.decode-bounded (widthOf k) s (relleb-laws.class-width k refl .0) bytes)) (classOf class)) (d .answer)
 
   pub relleb-write : (os ts ys : List ℕ) (us : List ℤ) (old : List ℕ) {new : List ℕ} {r : Answer} → U32 ts → U32 ys → relleb-contract.Writes class os ts ys us old r new
       → Readable listLimit rellebBytes r
@@ -165,16 +167,16 @@ module _ (class : ℕ) where
   relleb-write os ts ys us old types symbols w =
       readable (omega (arith, list-most))
       (answer-in list-fits (omega (arith, list-small)) (length old) (relleb-contract.encoding class os ts ys us)
-      (bounded-class (λ m. listLimit) (λ m. rellebBytes) (λ k. cond even (relleb.encode (bitsOf k) (relleb.rows os ts ys us)) (refused why.Columns 0)) (λ k. columns k even refl) (classOf class))
+      (bounded-class (λ m. listLimit) (λ m. rellebBytes) (λ k. cond even (relleb.encode (widthOf k) (relleb.rows os ts ys us)) (refused why.Columns 0)) (λ k. columns k even refl) (classOf class))
       (w .gives .answer))
     where
       even : Bool
       even = relleb-contract.even (length os) (length ts) (length ys) (length us)
 
-      columns : (k : Class) (t : Bool) → even ≡ t → Bounded listLimit rellebBytes (cond t (relleb.encode (bitsOf k) (relleb.rows os ts ys us)) (refused why.Columns 0))
+      columns : (k : Size) (t : Bool) → even ≡ t → Bounded listLimit rellebBytes (cond t (relleb.encode (widthOf k) (relleb.rows os ts ys us)) (refused why.Columns 0))
       columns k true e =
           let same = relleb-laws.even-same os ts ys us e in
-          relleb-bounds.encode-bounded (bitsOf k) (relleb.rows os ts ys us) (relleb-laws.class-width k refl)
+          relleb-bounds.encode-bounded (widthOf k) (relleb.rows os ts ys us) (relleb-laws.class-width k refl)
           (rows-fine os ts ys us same (λ i h. (each-at (λ (n : ℕ). n < 2 ^ 32) ts 0 types i (omega (arith, same .types)), each-at (λ (n : ℕ). n < 2 ^ 32) ys 0 symbols i (omega (arith, same .symbols)))))
       columns k false e = record { place = omega arith; long = tt }
 
@@ -184,14 +186,13 @@ pub place-fits : (p : ℕ) → p ≤ inputLimit → p + 10 < 2 ^ 32
 place-fits p h = omega (arith, input-most)
 
 -- RELR: the offsets of some words of a table, wherever they stand and whatever stood before them
-pub relr-passed : (k : Class) (t : List ℕ) (i : ℕ) (w : Where) {l : List ℕ} → length t * bytesOf k ≤ inputLimit → readOf k t i w ≡ accepted l → length l ≤ relrOffsets k
+pub relr-passed : (k : Class) (t : List ℕ) (i : ℕ) (w : Where) {l : List ℕ} → length t * bytesOf k ≤ inputLimit → readOf k t i w ≡ accepted l → length l ≤ relrOffsets (k .size)
 relr-passed k t i w {l} h e =
     let q = of-accepted (λ (l : List ℕ). length l ≤ length t * windowOf k) e (relr-bounds.words-most (bytesOf k) (windowOf k) (relr.spaceOf k) (omega (arith, bytes-least k)) t i w) in
     omega (arith, mul-le-mul-right (windowOf k) (words k (length t) h))
   where
     words : (j : Class) (m : ℕ) → m * bytesOf j ≤ inputLimit → m ≤ inputLimit / bytesOf j
-    words Four m h = omega arith
-    words Eight m h = omega arith
+    words j m = by-bytes (λ (n : ℕ). m * n ≤ inputLimit → m ≤ inputLimit / n) (λ h. omega arith) (λ h. omega arith) j
 
 -- APR1: the first offset and those of some pairs of a table, wherever they end
 pub apr1-passed : (s : List ℕ) (end n at x : ℕ) {ps : List apr1.Pair} → length s ≤ inputLimit → at ≤ length s → records (apr1.stepAt s) end n at x ≡ accepted ps → 1 + length (apr1.expand x ps) ≤ apr1Offsets

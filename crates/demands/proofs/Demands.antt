@@ -24,10 +24,11 @@ use Rattle.answer.specs.Outcome.{Outcome, accepted, refused, numberOf, listLimi
 use Rattle.answer.specs.Outcome.Laws.{Accepts, accepted-refused, answer-fits, answer-long, answer-refused, filled-fits, gives-zero}
 use Rattle.records.specs.Columns.{Each}
 use Rattle.records.specs.Reading.{Fitting}
-use Rattle.word.specs.declared.Class.{Class}
+use Rattle.word.specs.declared.Size.{Size}
+use Rattle.word.specs.declared.ByteOrder.{ByteOrder}
 use Rattle.word.specs.declared.Named.{Named}
 use Rattle.word.specs.declared.Named.the-variants.{Is, Unknown}
-use Rattle.word.specs.Class.{bytesOf, bitsOf, classOf}
+use Rattle.word.specs.Class.{widthOf, classIn, classOf}
 use Rattle.relr_table.specs.Table as relr
 use Rattle.relr_table.specs.Contract as relr-contract
 use Rattle.relr_table.specs.Contract.Laws as relr-laws
@@ -98,42 +99,43 @@ module _ {o : Outcome (List ℕ)} {old new : List ℕ} {w : Answer} (g : Gives o
   refused-number e = ap (λ (r : Answer). r .number) (g .answer ∙ answer-refused (length old) e)
 
 -- ---- RELR
-module _ (class : ℕ) (l : List ℕ) where
-  pub relr-legal : (k : Class) → classOf class ≡ Is k → relr.Writable k l → Accepts (relr-contract.encoding class l)
-  relr-legal k e h = record { list = relr.tableBytes k l; is = relr-laws.encoding-is class refl e l ∙ relr-trip.encode-accepts k l h }
+module _ (class : ℕ) (order : ByteOrder) (l : List ℕ) where
+  pub relr-legal : (z : Size) → classOf class ≡ Is z → relr.Writable (classIn z order) l → Accepts (relr-contract.encoding class order l)
+  relr-legal z e h =
+      record { list = relr.tableBytes (classIn z order) l; is = relr-laws.encoding-is class order refl e l ∙ relr-trip.encode-accepts (classIn z order) l h }
 
-  pub relr-legal-is : {b : List ℕ} → relr-contract.encoding class l ≡ accepted b → (k : Class) × (classOf class ≡ Is k) × relr.Writable k l
+  pub relr-legal-is : {b : List ℕ} → relr-contract.encoding class order l ≡ accepted b → (z : Size) × (classOf class ≡ Is z) × relr.Writable (classIn z order) l
   relr-legal-is {b} e = go (classOf class) refl
     where
-      go : (n : Named) → classOf class ≡ n → (k : Class) × (classOf class ≡ Is k) × relr.Writable k l
-      go (Is k) n = (k, n, relr-trip.encode-legal k l (sym (relr-laws.encoding-is class refl n l) ∙ e))
-      go Unknown n = absurd (accepted-refused e (relr-laws.encoding-unknown class refl n l))
+      go : (n : Named) → classOf class ≡ n → (z : Size) × (classOf class ≡ Is z) × relr.Writable (classIn z order) l
+      go (Is z) n = (z, n, relr-trip.encode-legal (classIn z order) l (sym (relr-laws.encoding-is class order refl n l) ∙ e))
+      go Unknown n = absurd (accepted-refused e (relr-laws.encoding-unknown class order refl n l))
 
-  relr-decodes : {b : List ℕ} → relr-contract.encoding class l ≡ accepted b → relr-contract.decoding class b ≡ accepted l
+  relr-decodes : {b : List ℕ} → relr-contract.encoding class order l ≡ accepted b → relr-contract.decoding class order b ≡ accepted l
   relr-decodes {b} e =
-      let (k, n, h) = relr-legal-is e in
-      relr-laws.decoding-is class refl n b ∙ relr-trip.decode-encode k l (sym (relr-laws.encoding-is class refl n l) ∙ e)
+      let (z, n, h) = relr-legal-is e in
+      relr-laws.decoding-is class order refl n b ∙ relr-trip.decode-encode (classIn z order) l (sym (relr-laws.encoding-is class order refl n l) ∙ e)
 
-module _ (class : ℕ) (l old column : List ℕ) {new column′ : List ℕ} {w r : Answer} where
-  pub relr-back : (f : Fitting (relr-contract.encoding class l) (length old)) → relr-contract.Writes class l old w new → relr-contract.Reads class (take (w .count) new) column r column′
+module _ (class : ℕ) (order : ByteOrder) (l old column : List ℕ) {new column′ : List ℕ} {w r : Answer} where
+  pub relr-back : (f : Fitting (relr-contract.encoding class order l) (length old)) → relr-contract.Writes class order l old w new → relr-contract.Reads class order (take (w .count) new) column r column′
       → length l ≤ length column → Returned w r (length (f .list)) (length l) × Begins l column′
   relr-back f g d h =
-      returned (relr-contract.decoding class (take (w .count) new)) column (wrote f (g .gives)) (rw (front f (g .gives)) (relr-decodes class l (f .is))) d h
+      returned (relr-contract.decoding class order (take (w .count) new)) column (wrote f (g .gives)) (rw (front f (g .gives)) (relr-decodes class order l (f .is))) d h
 
 -- the byte at index i, whose address is the start plus i, is as it was if it lies in no word at an offset of the table
-module _ (class : ℕ) (s : List ℕ) (base start : ℕ) (old : List ℕ) {new : List ℕ} {r : Answer} where
-  pub relr-elsewhere : relr-contract.Applies class s base start old r new → (k : Class) → classOf class ≡ Is k → (l : List ℕ) → relr.decode k s ≡ accepted l
-      → (i : ℕ) → relr.Apart (bytesOf k) (start + i) l → getD new i 0 ≡ getD old i 0
+module _ (class : ℕ) (order : ByteOrder) (s : List ℕ) (base start : ℕ) (old : List ℕ) {new : List ℕ} {r : Answer} where
+  pub relr-elsewhere : relr-contract.Applies class order s base start old r new → (z : Size) → classOf class ≡ Is z → (l : List ℕ) → relr.decode (classIn z order) s ≡ accepted l
+      → (i : ℕ) → relr.Apart (classIn z order) (start + i) l → getD new i 0 ≡ getD old i 0
   unfolding relr-contract.imageAfter relr-contract.changed
-  relr-elsewhere a k n l d i p =
-      let e : new ≡ relr-contract.changed (bytesOf k) base start (relr.targets k s base start (length old)) old = a .image ∙ rw n in
-      ap (λ (m : List ℕ). getD m i 0) e ∙ go (relr.targets k s base start (length old)) refl
+  relr-elsewhere a z n l d i p =
+      let e : new ≡ relr-contract.changed (classIn z order) base start (relr.targets (classIn z order) s base start (length old)) old = a .image ∙ rw n in
+      ap (λ (m : List ℕ). getD m i 0) e ∙ go (relr.targets (classIn z order) s base start (length old)) refl
     where
-      go : (o : Outcome (List ℕ)) → relr.targets k s base start (length old) ≡ o → getD (relr-contract.changed (bytesOf k) base start o old) i 0 ≡ getD old i 0
+      go : (o : Outcome (List ℕ)) → relr.targets (classIn z order) s base start (length old) ≡ o → getD (relr-contract.changed (classIn z order) base start o old) i 0 ≡ getD old i 0
       go (accepted m) e =
-          let (f, g) = targets-accepted k s base start (length old) e in
+          let (f, g) = targets-accepted (classIn z order) s base start (length old) e in
           let q : l ≡ m = (let z : accepted l ≡ accepted m = sym d ∙ f in cc) in
-          patched-apart (bytesOf k) base start i m old g (rw q at p)
+          patched-apart (classIn z order) base start i m old g (rw q at p)
       go (refused y q) e = refl
 
 -- ---- APR1
@@ -191,45 +193,45 @@ module _ (os : List ℕ) (us : List ℤ) where
 
 -- ---- RELLEB
 module _ (class : ℕ) (os ts ys : List ℕ) (us : List ℤ) where
-  pub relleb-legal : (k : Class) → classOf class ≡ Is k → relleb-contract.Same os ts ys us → length os ≤ listLimit → Each (relleb.InWidth (bitsOf k)) (relleb.rows os ts ys us)
+  pub relleb-legal : (z : Size) → classOf class ≡ Is z → relleb-contract.Same os ts ys us → length os ≤ listLimit → Each (relleb.InWidth (widthOf z)) (relleb.rows os ts ys us)
       → Accepts (relleb-contract.encoding class os ts ys us)
-  relleb-legal k n s h f =
-      let a = relleb-trip.encode-accepts (bitsOf k) (relleb.rows os ts ys us) (omega (arith, relleb-laws.many os ts ys us s)) f in
+  relleb-legal z n s h f =
+      let a = relleb-trip.encode-accepts (widthOf z) (relleb.rows os ts ys us) (omega (arith, relleb-laws.many os ts ys us s)) f in
       record { list = a .list; is = relleb-laws.write-plain class os ts ys us refl n (relleb-laws.same-even os ts ys us s) ∙ a .is }
 
   -- what is accepted is four columns of one length, in a class
   module _ {b : List ℕ} (e : relleb-contract.encoding class os ts ys us ≡ accepted b) where
-    relleb-named : (k : Class) × (classOf class ≡ Is k)
+    relleb-named : (z : Size) × (classOf class ≡ Is z)
     relleb-named = go (classOf class) refl
       where
-        go : (n : Named) → classOf class ≡ n → (k : Class) × (classOf class ≡ Is k)
-        go (Is k) n = (k, n)
+        go : (n : Named) → classOf class ≡ n → (z : Size) × (classOf class ≡ Is z)
+        go (Is z) n = (z, n)
         go Unknown n = absurd (accepted-refused e (relleb-laws.write-unknown class os ts ys us refl n))
 
-    relleb-same : (k : Class) → classOf class ≡ Is k → relleb-contract.Same os ts ys us
-    relleb-same k n = go (relleb-contract.even (length os) (length ts) (length ys) (length us)) refl
+    relleb-same : (z : Size) → classOf class ≡ Is z → relleb-contract.Same os ts ys us
+    relleb-same z n = go (relleb-contract.even (length os) (length ts) (length ys) (length us)) refl
       where
         go : (t : Bool) → relleb-contract.even (length os) (length ts) (length ys) (length us) ≡ t → relleb-contract.Same os ts ys us
         go true t = relleb-laws.even-same os ts ys us t
         go false t = absurd (accepted-refused e (relleb-laws.write-uneven class os ts ys us refl n t))
 
-    pub relleb-legal-is : (k : Class) × (classOf class ≡ Is k) × relleb-contract.Same os ts ys us × (length os ≤ listLimit) × Each (relleb.InWidth (bitsOf k)) (relleb.rows os ts ys us)
+    pub relleb-legal-is : (z : Size) × (classOf class ≡ Is z) × relleb-contract.Same os ts ys us × (length os ≤ listLimit) × Each (relleb.InWidth (widthOf z)) (relleb.rows os ts ys us)
     relleb-legal-is =
-        let (k, n) = relleb-named in
-        let s = relleb-same k n in
+        let (z, n) = relleb-named in
+        let s = relleb-same z n in
         let f = sym (relleb-laws.write-plain class os ts ys us refl n (relleb-laws.same-even os ts ys us s)) ∙ e in
-        let (h, l) = relleb-trip.encode-legal (bitsOf k) (relleb.rows os ts ys us) f in
-        (k, n, s, omega (arith, relleb-laws.many os ts ys us s), l)
+        let (h, l) = relleb-trip.encode-legal (widthOf z) (relleb.rows os ts ys us) f in
+        (z, n, s, omega (arith, relleb-laws.many os ts ys us s), l)
 
   module _ (old : List ℕ) {new : List ℕ} {w : Answer} (g : relleb-contract.Writes class os ts ys us old w new) where
     module _ (os₀ ts₀ ys₀ : List ℕ) (us₀ : List ℤ) {r : Answer} {os′ ts′ ys′ : List ℕ} {us′ : List ℤ} where
       pub relleb-back : (f : Fitting (relleb-contract.encoding class os ts ys us) (length old)) → relleb-contract.Reads class (take (w .count) new) os₀ ts₀ ys₀ us₀ r os′ ts′ ys′ us′
           → relleb-contract.Same os₀ ts₀ ys₀ us₀ → length os ≤ length os₀ → Returned w r (length (f .list)) (length os) × Begins os os′ × Begins ts ts′ × Begins ys ys′ × Begins us us′
       relleb-back f d even h =
-          let (k, n, s, few, l) = relleb-legal-is (f .is) in
-          let z = wrote-zero f (g .gives) in
+          let (z, n, s, few, l) = relleb-legal-is (f .is) in
+          let zero = wrote-zero f (g .gives) in
           let t = take (w .count) new in
-          let e = relleb-laws.read-plain class t (length os₀) (length ts₀) (length ys₀) (length us₀) refl n (relleb-laws.same-even os₀ ts₀ ys₀ us₀ even) ∙ g .back k n z in
+          let e = relleb-laws.read-plain class t (length os₀) (length ts₀) (length ys₀) (length us₀) refl n (relleb-laws.same-even os₀ ts₀ ys₀ us₀ even) ∙ g .back z n zero in
           let m = relleb-laws.many os ts ys us s in (
             record { written = wrote f (g .gives); read = d .answer ∙ answer-fits (length os₀) (record { list = relleb.rows os ts ys us; is = e; long = m }) h },
             begins-as relleb-contract.offsetOf os₀ e (relleb-trip.rows-offsets os ts ys us s) h (d .columns .offsets),
@@ -240,10 +242,10 @@ module _ (class : ℕ) (os ts ys : List ℕ) (us : List ℤ) where
 
 -- a table that is written has no addend difference of 0
 pub relleb-changes : (class : ℕ) (os ts ys : List ℕ) (us : List ℤ) {b : List ℕ} → relleb-contract.encoding class os ts ys us ≡ accepted b
-    → (k : Class) × (classOf class ≡ Is k) × relleb.Along (relleb.Changed (bitsOf k)) relleb.start (relleb.rows os ts ys us)
+    → (z : Size) × (classOf class ≡ Is z) × relleb.Along (relleb.Changed (widthOf z)) relleb.start (relleb.rows os ts ys us)
 relleb-changes class os ts ys us e =
-    let (k, n, s, h, l) = relleb-legal-is class os ts ys us e in
-    (k, n, legal-changes (bitsOf k) (relleb-laws.class-width k refl) (relleb.rows os ts ys us) l)
+    let (z, n, s, h, l) = relleb-legal-is class os ts ys us e in
+    (z, n, legal-changes (widthOf z) (relleb-laws.class-width z refl) (relleb.rows os ts ys us) l)
 
 -- class 8
 module _ (os ts ys : List ℕ) (us : List ℤ) (old : List ℕ) {new : List ℕ} {w : Answer} (g : relleb-contract.Writes 8 os ts ys us old w new) where

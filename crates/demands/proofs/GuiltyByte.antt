@@ -16,10 +16,10 @@ use Rattle.answer.specs.Bytes.{Bytes}
 use Rattle.answer.specs.Outcome.{Outcome, accepted, refused, success, refusal, noRoom, answerIn}
 use Rattle.answer.specs.Outcome.Laws.{number-one}
 use Rattle.leb128.proofs.Laws.{signed-value}
-use Rattle.word.specs.declared.Class as class
+use Rattle.word.specs.declared.Size.{Size}
 use Rattle.word.specs.declared.Named.{Named}
 use Rattle.word.specs.declared.Named.the-variants.{Is, Unknown}
-use Rattle.word.specs.Class.{bitsOf, classOf, inClass}
+use Rattle.word.specs.Class.{widthOf, classOf, inClass}
 use Rattle.apr1_table.specs.Contract as apr1
 use Rattle.apr1_table.specs.GuiltyByte as apr1-byte
 use Rattle.apr1_table.proofs.GuiltyByte as apr1-guilty
@@ -78,27 +78,27 @@ module _ (s os : List ℕ) (us : List ℤ) {r : Answer} {os′ : List ℕ} {us�
 module _ (size : ℕ) (s os ts ys : List ℕ) (us : List ℤ) {r : Answer} {os′ ts′ ys′ : List ℕ} {us′ : List ℤ} (bytes : Bytes s)
     (reads : relleb.Reads size s os ts ys us r os′ ts′ ys′ us′) (is : r .number ≡ 5) where
   -- what the columns and the class do not refuse, the table does
-  relleb-uneven : (k : class.Class) (t : Bool) → cond t (relleb-table.decode (bitsOf k) s) (refused Columns 0) ≡ refused Width (r .place)
-      → relleb-byte.WidthFault (bitsOf k) s (r .place)
-  relleb-uneven k true e = relleb-guilty.decode-guilty (bitsOf k) (relleb-laws.class-width k refl .0) s bytes e
+  relleb-uneven : (k : Size) (t : Bool) → cond t (relleb-table.decode (widthOf k) s) (refused Columns 0) ≡ refused Width (r .place)
+      → relleb-byte.WidthFault (widthOf k) s (r .place)
+  relleb-uneven k true e = relleb-guilty.decode-guilty (widthOf k) (relleb-laws.class-width k refl .0) s bytes e
   relleb-uneven k false e = let z : _≡_ {A = ℕ} 0 1 = cc in absurd (omega arith)
 
-  pub relleb-width : (k : class.Class) × (classOf size ≡ Is k) × relleb-byte.WidthFault (bitsOf k) s (r .place)
+  pub relleb-width : (k : Size) × (classOf size ≡ Is k) × relleb-byte.WidthFault (widthOf k) s (r .place)
   unfolding relleb.decoding
   relleb-width = go (classOf size) refl (answered (length os) (relleb.decoding size s (length os) (length ts) (length ys) (length us)) (reads .answer) is)
     where
       even : Bool
       even = relleb.even (length os) (length ts) (length ys) (length us)
 
-      go : (n : Named) → classOf size ≡ n → inClass n (λ k. cond even (relleb-table.decode (bitsOf k) s) (refused Columns 0)) ≡ refused Width (r .place)
-          → (k : class.Class) × (classOf size ≡ Is k) × relleb-byte.WidthFault (bitsOf k) s (r .place)
+      go : (n : Named) → classOf size ≡ n → inClass n (λ k. cond even (relleb-table.decode (widthOf k) s) (refused Columns 0)) ≡ refused Width (r .place)
+          → (k : Size) × (classOf size ≡ Is k) × relleb-byte.WidthFault (widthOf k) s (r .place)
       go (Is k) e f = (k, e, relleb-uneven k even f)
       go Unknown e f = let z : _≡_ {A = ℕ} 0 1 = cc in absurd (omega arith)
 
   pub relleb-inside : r .place < length s
   relleb-inside = let (k, e, f) = relleb-width in go k f
     where
-      go : (k : class.Class) → relleb-byte.WidthFault (bitsOf k) s (r .place) → r .place < length s
+      go : (k : Size) → relleb-byte.WidthFault (widthOf k) s (r .place) → r .place < length s
       go k (inl (at, g)) = g .inside
       go k (inr (inl (at, g))) = g .inside
       go k (inr (inr (inl (at, g)))) = g .inside

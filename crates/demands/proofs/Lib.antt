@@ -2,3 +2,4 @@ pub mod Demands
 pub mod GuiltyByte
 pub mod BiggerModules
 pub mod ImageStart
+pub mod ByteOrders

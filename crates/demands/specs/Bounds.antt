@@ -5,15 +5,15 @@ use mathlib.Core.List.{List}
 use Rattle.answer.specs.declared.Answer.{Answer}
 use Rattle.answer.specs.Outcome.{inputLimit, listLimit}
 use Rattle.records.specs.Columns.{Each}
-use Rattle.word.specs.declared.Class.{Class}
+use Rattle.word.specs.declared.Size.{Size}
 use Rattle.word.specs.declared.Named.{Named}
 use Rattle.word.specs.declared.Named.the-variants.{Is, Unknown}
-use Rattle.word.specs.Class.{bytesOf, windowOf}
+use Rattle.word.specs.Class.{sizeOf, widthOf}
 
 -- ---- the longest lists that are read
 -- RELR: every word a bitmap that marks its whole window
-abbrev pub relrOffsets : Class → ℕ
-relrOffsets k = inputLimit / bytesOf k * windowOf k
+abbrev pub relrOffsets : Size → ℕ
+relrOffsets z = inputLimit / sizeOf z * (widthOf z - 1)
 
 -- APR1: the first offset, and those of pairs of two bytes with the largest C
 abbrev pub apr1Offsets : ℕ
@@ -29,8 +29,8 @@ rellebRecords = inputLimit / 3
 
 -- ---- the longest tables that are written
 -- RELR: a word for each offset
-abbrev pub relrBytes : Class → ℕ
-relrBytes k = bytesOf k * listLimit
+abbrev pub relrBytes : Size → ℕ
+relrBytes z = sizeOf z * listLimit
 
 -- APR1: the identifier, N and A in 14 bytes, and a pair of 10 for each offset but the first
 abbrev pub apr1Bytes : ℕ
@@ -45,8 +45,8 @@ abbrev pub rellebBytes : ℕ
 rellebBytes = 10 + 30 * listLimit
 
 -- a class's bound; where a number names no class, nothing is read or written
-abbrev pub inNamed : (Class → ℕ) → Named → ℕ
-inNamed f (Is k) = f k
+abbrev pub inNamed : (Size → ℕ) → Named → ℕ
+inNamed f (Is z) = f z
 inNamed f Unknown = 0
 
 -- a column of u32

@@ -1,3 +1,5 @@
 pub mod Bounds
 pub mod Statements
 pub mod FromZero
+pub mod LowFirst
+pub mod Reversed

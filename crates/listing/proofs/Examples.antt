@@ -48,12 +48,12 @@ early = refl
 
 -- a table of no whole words
 cut-word : textOf (114 ∷ 101 ∷ 108 ∷ 114 ∷ 51 ∷ 50 ∷ 10 ∷ 0 ∷ 1 ∷ 0 ∷ []) ≡ 114 ∷ 101 ∷ 102 ∷ 117 ∷ 115 ∷ 101 ∷ 100 ∷ 9 ∷ 52 ∷ 9 ∷ 51 ∷ 10 ∷ []
-unfolding textOf textAfter firstLine identifier.startsWith tableText rowsOf mapped printed rowsFrom rowText field decimal digitsBy decimalSigned refusalText outcome.inputLimit outcome.after relr-contract.decoding relr.decode relr.parse words.marked words.fit words.anchored words.read word.wordsOf word.firstWords word.valueOf
+unfolding textOf textAfter firstLine identifier.startsWith tableText rowsOf mapped printed rowsFrom rowText field decimal digitsBy decimalSigned refusalText outcome.inputLimit outcome.after relr-contract.decoding relr.decode relr.parse words.marked words.fit words.anchored words.read word.wordsOf word.firstWords word.arranged word.valueOf
 cut-word = refl
 
 -- case F: offsets alone
 offsets : textOf (114 ∷ 101 ∷ 108 ∷ 114 ∷ 51 ∷ 50 ∷ 10 ∷ 0 ∷ 1 ∷ 0 ∷ 0 ∷ 1 ∷ 0 ∷ 0 ∷ 128 ∷ []) ≡ 110 ∷ 111 ∷ 9 ∷ 111 ∷ 102 ∷ 102 ∷ 115 ∷ 101 ∷ 116 ∷ 9 ∷ 116 ∷ 121 ∷ 112 ∷ 101 ∷ 9 ∷ 115 ∷ 121 ∷ 109 ∷ 98 ∷ 111 ∷ 108 ∷ 9 ∷ 97 ∷ 100 ∷ 100 ∷ 101 ∷ 110 ∷ 100 ∷ 10 ∷ 48 ∷ 9 ∷ 50 ∷ 53 ∷ 54 ∷ 9 ∷ 45 ∷ 9 ∷ 45 ∷ 9 ∷ 45 ∷ 10 ∷ 49 ∷ 9 ∷ 51 ∷ 56 ∷ 48 ∷ 9 ∷ 45 ∷ 9 ∷ 45 ∷ 9 ∷ 45 ∷ 10 ∷ []
-unfolding textOf textAfter firstLine identifier.startsWith tableText rowsOf mapped printed rowsFrom rowText field decimal digitsBy decimalSigned refusalText outcome.inputLimit outcome.after relr-contract.decoding relr.decode relr.parse words.marked words.fit words.anchored words.read word.wordsOf word.firstWords word.valueOf
+unfolding textOf textAfter firstLine identifier.startsWith tableText rowsOf mapped printed rowsFrom rowText field decimal digitsBy decimalSigned refusalText outcome.inputLimit outcome.after relr-contract.decoding relr.decode relr.parse words.marked words.fit words.anchored words.read word.wordsOf word.firstWords word.arranged word.valueOf
 offsets = refl
 
 -- case I: offsets with addends

@@ -16,6 +16,7 @@ use Rattle.answer.specs.Outcome.Laws.{filled-fits, answer-zero, Succeeded}
 use Rattle.answer.specs.Written.{written-long}
 use Rattle.records.specs.Identifier.{startsWith}
 use Rattle.records.specs.Identifier.Laws.{starts-short}
+use Rattle.word.specs.declared.ByteOrder.the-variants.{Little}
 use Rattle.relr_table.specs.Contract as relr
 use Rattle.apr1_table.specs.Contract as apr1
 use Rattle.apa1_table.specs.Table as apa1
@@ -25,9 +26,9 @@ use Rattle.relleb_table.specs.Table as relleb
 use Rattle.relleb_table.specs.Table.{Row, row}
 use Rattle.relleb_table.specs.Contract as relleb-contract
 use Rattle.relleb_table.specs.Contract.Laws as relleb-laws
-use Rattle.word.specs.Class.{bitsOf, classOf}
-use Rattle.word.specs.declared.Class.{Class}
-use Rattle.word.specs.declared.Class.the-variants.{Four, Eight}
+use Rattle.word.specs.Class.{widthOf, classOf}
+use Rattle.word.specs.declared.Size.{Size}
+use Rattle.word.specs.declared.Size.the-variants.{Four, Eight}
 use Rattle.word.specs.declared.Named.the-variants.{Is}
 use Rattle.listing.specs.declared.kind.Kind.{Kind}
 use Rattle.listing.specs.declared.kind.Kind.the-variants.{Relr32, Relr64, Apr1, Apa1, Relleb32, Relleb64}
@@ -64,13 +65,13 @@ module _ (k : Kind) (s os ts ys : List ℕ) (us : List ℤ) {r : Answer} {os′ 
       }
 
 module _ (s os ts ys : List ℕ) (us : List ℤ) {k : Kind} {r : Answer} {os′ : List ℕ} (f : Readable s os ts ys us) where
-  pub relr-four : k ≡ Relr32 → relr.Reads 4 s os r os′ → Reads k s r os′ ts ys us
+  pub relr-four : k ≡ Relr32 → relr.Reads 4 Little s os r os′ → Reads k s r os′ ts ys us
   unfolding rowsOf
-  relr-four e c = rw e (offsets-read Relr32 s os ts ys us (relr.decoding 4 s) refl refl refl (f .offsets) (c .answer) (c .held))
+  relr-four e c = rw e (offsets-read Relr32 s os ts ys us (relr.decoding 4 Little s) refl refl refl (f .offsets) (c .answer) (c .held))
 
-  pub relr-eight : k ≡ Relr64 → relr.Reads 8 s os r os′ → Reads k s r os′ ts ys us
+  pub relr-eight : k ≡ Relr64 → relr.Reads 8 Little s os r os′ → Reads k s r os′ ts ys us
   unfolding rowsOf
-  relr-eight e c = rw e (offsets-read Relr64 s os ts ys us (relr.decoding 8 s) refl refl refl (f .offsets) (c .answer) (c .held))
+  relr-eight e c = rw e (offsets-read Relr64 s os ts ys us (relr.decoding 8 Little s) refl refl refl (f .offsets) (c .answer) (c .held))
 
   pub apr1-read : k ≡ Apr1 → apr1.Reads s os r os′ → Reads k s r os′ ts ys us
   unfolding rowsOf
@@ -96,7 +97,7 @@ module _ (s os ts ys : List ℕ) (us : List ℤ) {k : Kind} {r : Answer} {os′ 
 
 -- ---- whole records
 module _ (s os ts ys : List ℕ) (us : List ℤ) {k : Kind} {r : Answer} {os′ ts′ ys′ : List ℕ} {us′ : List ℤ} (f : Readable s os ts ys us) where
-  whole-read : (size : ℕ) (c : Class) → classOf size ≡ Is c → rowsOf k s ≡ relleb.decode (bitsOf c) s
+  whole-read : (size : ℕ) (z : Size) → classOf size ≡ Is z → rowsOf k s ≡ relleb.decode (widthOf z) s
       → relleb-contract.Reads size s os ts ys us r os′ ts′ ys′ us′ → Reads k s r os′ ts′ ys′ us′
   whole-read size c e w d =
       let same : relleb-contract.Same os ts ys us =

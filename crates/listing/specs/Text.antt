@@ -9,6 +9,7 @@ use lib.ListN.{length, drop, getD}
 use Rattle.answer.specs.declared.Refusal.the-variants.{Class, Limit, Room}
 use Rattle.answer.specs.Outcome.{numberOf, Outcome, accepted, refused}
 use Rattle.records.specs.Identifier.{startsWith}
+use Rattle.word.specs.declared.ByteOrder.the-variants.{Little}
 use Rattle.relr_table.specs.Contract as relr
 use Rattle.apr1_table.specs.Contract as apr1
 use Rattle.apa1_table.specs.Table as apa1
@@ -104,8 +105,8 @@ mapped f (refused why p) = refused why p
 
 -- what a table says, by its kind
 unfoldable pub rowsOf : Kind → List ℕ → Outcome (List Row)
-rowsOf Relr32 s = mapped offsetRow (relr.decoding 4 s)
-rowsOf Relr64 s = mapped offsetRow (relr.decoding 8 s)
+rowsOf Relr32 s = mapped offsetRow (relr.decoding 4 Little s)
+rowsOf Relr64 s = mapped offsetRow (relr.decoding 8 Little s)
 rowsOf Apr1 s = mapped offsetRow (apr1.decoding s)
 rowsOf Apa1 s = mapped pairRow (apa1.decode s)
 rowsOf Relleb32 s = relleb.decode 32 s

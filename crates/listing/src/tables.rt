@@ -12,6 +12,7 @@ use crate::rows;
 use answer::Answer;
 use answer::CLASS;
 use answer::LIMIT;
+use word::ByteOrder;
 
 // The most bytes of a table, and the most records.
 const TABLE_LIMIT: usize = 16384;
@@ -31,8 +32,8 @@ fn read(
     ensures { λ r. ⌜ Reads kind (now (table .entry)) r (now (offsets .exit)) (now (types .exit)) (now (symbols .exit)) (now (addends .exit)) ⌝ }
 {
     match kind {
-        Kind::Relr32 => relr::read(4, table, offsets),
-        Kind::Relr64 => relr::read(8, table, offsets),
+        Kind::Relr32 => relr::read(4, ByteOrder::Little, table, offsets),
+        Kind::Relr64 => relr::read(8, ByteOrder::Little, table, offsets),
         Kind::Apr1 => apr1::read(table, offsets),
         Kind::Apa1 => apa1::read(table, offsets, addends),
         Kind::Relleb32 => relleb::read(4, table, offsets, types, symbols, addends),

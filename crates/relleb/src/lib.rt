@@ -4,8 +4,8 @@ ghost use Rattle.relleb_table.specs.Contract.{even, Reads, Writes};
 use answer::Answer;
 use answer::Found;
 use answer::Refusal;
-use word::Class;
 use word::Named;
+use word::Size;
 
 // Whether four columns have one length.
 fn same_length(offsets: usize, types: usize, symbols: usize, addends: usize) -> bool
@@ -31,7 +31,7 @@ pub fn read(
 ) -> Answer
     ensures { λ r. ⌜ Reads class (now (table .entry)) (now (offsets .entry)) (now (types .entry)) (now (symbols .entry)) (now (addends .entry)) r (now (offsets .exit)) (now (types .exit)) (now (symbols .exit)) (now (addends .exit)) ⌝ }
 {
-    let named = Class::named(class);
+    let named = Size::named(class);
     let Named::Is(kind) = named else {
         return answer::refuse(Refusal::Class, 0);
     };
@@ -62,7 +62,7 @@ pub fn write(
 ) -> Answer
     ensures { λ r. ⌜ Writes class (now (offsets .entry)) (now (types .entry)) (now (symbols .entry)) (now (addends .entry)) (now (table .entry)) r (now (table .exit)) ⌝ }
 {
-    let named = Class::named(class);
+    let named = Size::named(class);
     let Named::Is(kind) = named else {
         return answer::refuse(Refusal::Class, 0);
     };

@@ -11,11 +11,11 @@ ghost use Rattle.relleb_table.specs.Table.{row, state, start, behind, rows, sym
 ghost use Rattle.relleb_table.specs.Contract.{Same};
 ghost use Rattle.relleb_table.specs.Inner.{Listed, Measures, Puttable};
 ghost use Rattle.relleb_write.specs.Inner.{fieldsPut, Measured};
-ghost use Rattle.word.specs.Class.{bitsOf};
+ghost use Rattle.word.specs.Class.{widthOf};
 use answer::Found;
 use answer::LIST_LIMIT;
 use answer::Refusal;
-use word::Class;
+use word::Size;
 
 // A record as its numbers: the offset's difference, the type's, the symbol field, and the addend's difference, which is written behind a
 // negative symbol field.
@@ -137,21 +137,21 @@ fn size(width: u32, offsets: &[u64], types: &[u32], symbols: &[u32], addends: &[
 // How many bytes a table of a class takes, or the refusal: first that of a list over its limit. The first pass is a loop for each class,
 // with the class's width in it.
 pub fn measure(
-    kind: Class,
+    kind: Size,
     offsets: &[u64],
     types: &[u32],
     symbols: &[u32],
     addends: &[i64],
 ) -> Found
     requires { ⌜ Same (now offsets) (now types) (now symbols) (now addends) ⌝ }
-    ensures { λ r. ⌜ Measures (bitsOf kind) (now (offsets .entry)) (now (types .entry)) (now (symbols .entry)) (now (addends .entry)) r ⌝ }
+    ensures { λ r. ⌜ Measures (widthOf kind) (now (offsets .entry)) (now (types .entry)) (now (symbols .entry)) (now (addends .entry)) r ⌝ }
 {
     if LIST_LIMIT < offsets.len() {
         return Found::Refused(Refusal::Limit, 0);
     }
     match kind {
-        Class::Four => size(Class::FOUR_BITS, offsets, types, symbols, addends),
-        Class::Eight => size(Class::EIGHT_BITS, offsets, types, symbols, addends),
+        Size::Four => size(Size::FOUR_BITS, offsets, types, symbols, addends),
+        Size::Eight => size(Size::EIGHT_BITS, offsets, types, symbols, addends),
     }
 }
 

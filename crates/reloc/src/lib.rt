@@ -1,14 +1,16 @@
 // The static library: every call for programs in C and Rust, with the contract of the call behind it.
 ghost use mathlib.Core.Path.{_≡_};
 ghost use Rattle.reloc.specs.Version.{version};
+ghost use Rattle.word.specs.Class.{orderOf};
 ghost use Rattle.relr_table.specs.Contract.{Reads as RelrReads, Writes as RelrWrites, Applies as RelrApplies};
 ghost use Rattle.apr1_table.specs.Contract.{Reads as Apr1Reads, Writes as Apr1Writes};
 ghost use Rattle.apa1_table.specs.Contract.{Reads as Apa1Reads, Writes as Apa1Writes};
 ghost use Rattle.relleb_table.specs.Contract.{Reads as RellebReads, Writes as RellebWrites};
 use answer::Answer;
+use word::ByteOrder;
 
-// The version as one number: 0.5.1.
-const VERSION: u32 = 5001;
+// The version as one number: 0.6.0.
+const VERSION: u32 = 6000;
 
 #[no_mangle]
 pub extern "C" fn reloc_version() -> u32
@@ -18,30 +20,41 @@ pub extern "C" fn reloc_version() -> u32
 }
 
 #[no_mangle]
-pub extern "C" fn reloc_relr_read(class: u32, table: &[u8], offsets: &mut [u64]) -> Answer
-    ensures { λ r. ⌜ RelrReads class (now (table .entry)) (now (offsets .entry)) r (now (offsets .exit)) ⌝ }
+pub extern "C" fn reloc_relr_read(
+    class: u32,
+    big: bool,
+    table: &[u8],
+    offsets: &mut [u64],
+) -> Answer
+    ensures { λ r. ⌜ RelrReads class (orderOf big) (now (table .entry)) (now (offsets .entry)) r (now (offsets .exit)) ⌝ }
 {
-    relr::read(class, table, offsets)
+    relr::read(class, ByteOrder::of(big), table, offsets)
 }
 
 #[no_mangle]
-pub extern "C" fn reloc_relr_write(class: u32, offsets: &[u64], table: &mut [u8]) -> Answer
-    ensures { λ r. ⌜ RelrWrites class (now (offsets .entry)) (now (table .entry)) r (now (table .exit)) ⌝ }
+pub extern "C" fn reloc_relr_write(
+    class: u32,
+    big: bool,
+    offsets: &[u64],
+    table: &mut [u8],
+) -> Answer
+    ensures { λ r. ⌜ RelrWrites class (orderOf big) (now (offsets .entry)) (now (table .entry)) r (now (table .exit)) ⌝ }
 {
-    relr::write(class, offsets, table)
+    relr::write(class, ByteOrder::of(big), offsets, table)
 }
 
 #[no_mangle]
 pub extern "C" fn reloc_relr_apply(
     class: u32,
+    big: bool,
     table: &[u8],
     base: u64,
     start: u64,
     image: &mut [u8],
 ) -> Answer
-    ensures { λ r. ⌜ RelrApplies class (now (table .entry)) base start (now (image .entry)) r (now (image .exit)) ⌝ }
+    ensures { λ r. ⌜ RelrApplies class (orderOf big) (now (table .entry)) base start (now (image .entry)) r (now (image .exit)) ⌝ }
 {
-    relr::apply(class, table, base, start, image)
+    relr::apply(class, ByteOrder::of(big), table, base, start, image)
 }
 
 #[no_mangle]

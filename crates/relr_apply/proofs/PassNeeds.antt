@@ -1,13 +1,13 @@
 -- The needs of applying, stated as the code asks them.
 -- Assumes nothing.
-use mathlib.Core.Bool.{Bool, true, false}
+use mathlib.Core.Bool.{Bool, true, false, cond}
 use mathlib.Core.List.{List, [], _∷_, _++_}
 use mathlib.Core.Path.{_≡_, refl, sym, ap, subst, _∙_}
 use Prim.Native.Nat.{ℕ, zero, suc, _+_, _-_, _*_, _/_, _%_, _^_, _≤_, _<_}
 use native.Mathlib.Nat.{mod-eq-of-lt, mul-le-mul-right}
 use native.Mathlib.Omega.{arith}
 use native.Mathlib.Decide.{decLe}
-use lib.Dec.{leb, ltb}
+use lib.Dec.{leb, ltb, eqb}
 use lib.Bits.{bitAnd}
 use lib.Count.{trailingZeros}
 use lib.ListN.{length}
@@ -25,14 +25,13 @@ use Rattle.answer.specs.declared.Found.the-variants as found
 use Rattle.answer.specs.Outcome.{Outcome, accepted, refused, foundOf, success, refusal}
 use Rattle.answer.specs.Outcome.Laws.{Counted, found-count, not-found, answer-all, answer-none}
 use Rattle.word.specs.declared.Class.{Class}
-use Rattle.word.specs.declared.Class.the-variants.{Four, Eight}
 use Rattle.word.specs.Class.{bytesOf, bitsOf, windowOf}
-use Rattle.word.specs.Class.Laws.{bytes-least}
+use Rattle.word.specs.Class.Laws.{bytes-least, by-bytes, class-is}
 use Rattle.word.specs.Word.{wordAt, withWord}
 use Rattle.relr_table.specs.Table.{spaceOf, decode, inside, Inside, All, contained, targets, indexes, added, patched, above}
 use Rattle.relr_table.specs.Contract.{changed, AppliesIn}
 use Rattle.relr_table.specs.Inner.{marksOf, full, between}
-use Rattle.relr_apply.specs.Inner.{Addable, Added, Patchable, Spacious, Windows, Sized, Targeted, Patched, End}
+use Rattle.relr_apply.specs.Inner.{Addable, Added, Patchable, Runs, Spacious, Windows, Paced, Sized, Targeted, Aimed, Patched, End}
 use Rattle.relr_table.proofs.Marked.{all-left, all-right}
 use Rattle.relr_table.proofs.PlaceNeeds.{one-mark}
 use Rattle.relr_table.proofs.Passed.{step-fits, step-less, space-most}
@@ -42,8 +41,8 @@ use Rattle.relr_table.proofs.Decoding.{decode-good, contained-space}
 use Rattle.relr_table.proofs.Applying.{patched-length, patched-more, patched-one, targets-over, targets-in, targets-accepted}
 
 -- ---- an addition
-pub adds : (k : Class) (image new : List ℕ) (x base : ℕ) {w v : ℕ} → w ≡ wordAt (bytesOf k) image x → v ≡ (w + base) % 2 ^ bitsOf k → new ≡ withWord (bytesOf k) image x v
-    → new ≡ added (bytesOf k) base image x
+pub adds : (k : Class) (image new : List ℕ) (x base : ℕ) {w v : ℕ} → w ≡ wordAt k image x → v ≡ (w + base) % 2 ^ bitsOf k → new ≡ withWord k image x v
+    → new ≡ added k base image x
 unfolding added
 adds k image new x base e f g = g ∙ rw (f, e)
 
@@ -60,13 +59,13 @@ module _ {k : Class} {times : ℕ} {image : List ℕ} {x : ℕ} (m : Addable k t
       go (suc zero) l = record { fits = omega arith }
       go (suc (suc t)) l = absurd (omega arith)
 
-  pub times-added : (base : ℕ) {new : List ℕ} {w v : ℕ} → w ≡ wordAt (bytesOf k) image x → w < 2 ^ bitsOf k → withWord (bytesOf k) image x w ≡ image
-      → v ≡ (w + base * times) % 2 ^ bitsOf k → new ≡ withWord (bytesOf k) image x v → Added k base times image new x
+  pub times-added : (base : ℕ) {new : List ℕ} {w v : ℕ} → w ≡ wordAt k image x → w < 2 ^ bitsOf k → withWord k image x w ≡ image
+      → v ≡ (w + base * times) % 2 ^ bitsOf k → new ≡ withWord k image x v → Added k base times image new x
   times-added base {new} {w} {v} e l back f g =
       record {
         none = λ z.
             let s : w + base * times ≡ w = rw z (omega arith) in
-            g ∙ ap (withWord (bytesOf k) image x) (f ∙ rw s (mod-eq-of-lt l)) ∙ back;
+            g ∙ ap (withWord k image x) (f ∙ rw s (mod-eq-of-lt l)) ∙ back;
         once = λ z.
             let s : w + base * times ≡ w + base = rw z (omega arith) in
             adds k image new x base e (f ∙ rw s) g;
@@ -78,7 +77,7 @@ pub ruleset times = (times-in, times-fits, times-added, needs)
 pub record Patching (k : Class) (old : List ℕ) (base start anchor set : ℕ) (image : List ℕ) (bits : ℕ) : Type 0 where
   pub p : List ℕ
   pub left : Left k anchor set bits p
-  pub held : image ≡ patched (bytesOf k) base (indexes start p) old
+  pub held : image ≡ patched k base (indexes start p) old
 
 module _ {k : Class} {old : List ℕ} {base start anchor set : ℕ} (m : Patchable k start old anchor set) where
   pub patching-begin : Patching k old base start anchor set old set
@@ -87,16 +86,16 @@ module _ {k : Class} {old : List ℕ} {base start anchor set : ℕ} (m : Patchab
 
   module _ {image : List ℕ} {bits : ℕ} (g : Patching k old base start anchor set image bits) where
     pub patching-long : length image ≡ length old
-    patching-long = ap length (g .held) ∙ patched-length (bytesOf k) base (indexes start (g .p)) old
+    patching-long = ap length (g .held) ∙ patched-length k base (indexes start (g .p)) old
 
-    pub patching-end : bits ≡ 0 → image ≡ patched (bytesOf k) base (indexes start (marksOf k set anchor)) old
+    pub patching-end : bits ≡ 0 → image ≡ patched k base (indexes start (marksOf k set anchor)) old
     patching-end z = let e = left-end (g .left) z in rw e (g .held)
 
     module _ {t rest c : ℕ} (n : Next k anchor bits t rest) (ce : c ≡ bytesOf k) where
-      here : Inside (bytesOf k) start (length old) (anchor + t * bytesOf k)
+      here : Inside k start (length old) (anchor + t * bytesOf k)
       here =
-          all-right (Inside (bytesOf k) start (length old)) (g .p) ((anchor + t * bytesOf k) ∷ marksOf k rest anchor)
-          (subst (All (Inside (bytesOf k) start (length old))) (left-head (g .left) n) (m .in-image)) .0
+          all-right (Inside k start (length old)) (g .p) ((anchor + t * bytesOf k) ∷ marksOf k rest anchor)
+          (subst (All (Inside k start (length old))) (left-head (g .left) n) (m .in-image)) .0
 
       next-low : start ≤ anchor + t * c
       next-low = rw ce (here .0)
@@ -107,13 +106,13 @@ module _ {k : Class} {old : List ℕ} {base start anchor set : ℕ} (m : Patchab
       next-fits : Fits w64 (anchor + t * c)
       next-fits = rw ce (left-fits (g .left) n (m .in-space))
 
-      next-set : {new : List ℕ} → new ≡ added (bytesOf k) base image (anchor + t * c - start) → Patching k old base start anchor set new rest
+      next-set : {new : List ℕ} → new ≡ added k base image (anchor + t * c - start) → Patching k old base start anchor set new rest
       next-set {new} e =
           let x = anchor + t * bytesOf k in
           record {
             p = g .p ++ x ∷ [];
             left = left-next (g .left) n;
-            held = (rw ce at e) ∙ rw (g .held, patched-more) (sym (patched-one (bytesOf k) base start x (patched (bytesOf k) base (indexes start (g .p)) old)));
+            held = (rw ce at e) ∙ rw (g .held, patched-more) (sym (patched-one k base start x (patched k base (indexes start (g .p)) old)));
           }
 
     -- by trailing zeros
@@ -130,7 +129,7 @@ module _ {k : Class} {old : List ℕ} {base start anchor set : ℕ} (m : Patchab
       pub zeros-fits : Fits w64 (anchor + trailingZeros 64 bits * c)
       zeros-fits = next-fits zeros ce
 
-      pub zeros-set : {new : List ℕ} → new ≡ added (bytesOf k) base image (anchor + trailingZeros 64 bits * c - start)
+      pub zeros-set : {new : List ℕ} → new ≡ added k base image (anchor + trailingZeros 64 bits * c - start)
           → Patching k old base start anchor set new (bitAnd bits (bits - 1))
       zeros-set = next-set zeros ce
 
@@ -142,16 +141,16 @@ pub record Running (k : Class) (old : List ℕ) (base start anchor n : ℕ) (ima
   pub within : j ≤ n
   pub patching : Patching k old base start anchor (full k) image (2 ^ windowOf k - 2 ^ j)
 
-module _ {k : Class} {old : List ℕ} {base start anchor n : ℕ} (m : Patchable k start old anchor (full k)) where
-  pub running-begin : n ≡ windowOf k → Running k old base start anchor n old 0
-  running-begin ne = record { window = ne; within = omega arith; patching = patching-begin m }
+module _ {k : Class} {old : List ℕ} {base start anchor n : ℕ} (r : Runs k n start old anchor) where
+  pub running-begin : Running k old base start anchor n old 0
+  running-begin = record { window = r .locations; within = omega arith; patching = patching-begin (r .patchable) }
 
   module _ {image : List ℕ} {j : ℕ} (g : Running k old base start anchor n image j) where
     pub running-long : length image ≡ length old
-    running-long = patching-long m (g .patching)
+    running-long = patching-long (r .patchable) (g .patching)
 
-    pub running-end : n ≤ j → image ≡ patched (bytesOf k) base (indexes start (marksOf k (full k) anchor)) old
-    running-end l = patching-end m (g .patching) (full-none k j (omega (arith, g .within, g .window)))
+    pub running-end : n ≤ j → image ≡ patched k base (indexes start (marksOf k (full k) anchor)) old
+    running-end l = patching-end (r .patchable) (g .patching) (full-none k j (omega (arith, g .within, g .window)))
 
     module _ {c : ℕ} (l : j < n) (ce : c ≡ bytesOf k) where
       step : Next k anchor (2 ^ windowOf k - 2 ^ j) j (2 ^ windowOf k - 2 ^ (j + 1))
@@ -161,16 +160,16 @@ module _ {k : Class} {old : List ℕ} {base start anchor n : ℕ} (m : Patchable
       running-far = far-small k j (step .within) ce
 
       pub running-low : start ≤ anchor + j * c
-      running-low = next-low m (g .patching) step ce
+      running-low = next-low (r .patchable) (g .patching) step ce
 
       pub running-in : anchor + j * c - start + bytesOf k ≤ length image
-      running-in = next-in m (g .patching) step ce
+      running-in = next-in (r .patchable) (g .patching) step ce
 
       pub running-fits : Fits w64 (anchor + j * c)
-      running-fits = next-fits m (g .patching) step ce
+      running-fits = next-fits (r .patchable) (g .patching) step ce
 
-      pub running-set : {new : List ℕ} → new ≡ added (bytesOf k) base image (anchor + j * c - start) → Running k old base start anchor n new (j + 1)
-      running-set e = record { window = g .window; within = omega arith; patching = next-set m (g .patching) step ce e }
+      pub running-set : {new : List ℕ} → new ≡ added k base image (anchor + j * c - start) → Running k old base start anchor n new (j + 1)
+      running-set e = record { window = g .window; within = omega arith; patching = next-set (r .patchable) (g .patching) step ce e }
 
 pub ruleset runnings = (running-begin, running-long, running-end, running-far, running-low, running-in, running-fits, running-set, run-bit, run-less, needs)
 
@@ -180,28 +179,28 @@ pub record Sweeping (k : Class) (old : List ℕ) (base start anchor set at : ℕ
   pub through : Through k anchor set j p
   pub rest : bits ≡ set / 2 ^ j
   pub here : x ≡ at + j * bytesOf k
-  pub held : image ≡ patched (bytesOf k) base (indexes start p) old
+  pub held : image ≡ patched k base (indexes start p) old
 
 -- an index and an offset that stand for one another, further on
 index-is : (at start anchor t : ℕ) → (at + start) % 2 ^ 64 ≡ anchor → start ≤ anchor + t → at + t < 2 ^ 64 → at + t ≡ anchor + t - start
 index-is at start anchor t e l h = omega arith
 
-module _ {k : Class} {old : List ℕ} {base start anchor set at : ℕ} (m : Spacious k start old anchor set) where
+module _ {k : Class} {old : List ℕ} {base n c start anchor set at : ℕ} (m : Spacious k n c start old anchor set) where
   pub sweeping-begin : Sweeping k old base start anchor set at old set at 0
   unfolding patched indexes
   sweeping-begin = record { p = []; through = through-begin k anchor set; rest = omega arith; here = omega arith; held = refl }
 
   module _ {image : List ℕ} {bits x j : ℕ} (g : Sweeping k old base start anchor set at image bits x j) where
     pub sweeping-long : length image ≡ length old
-    sweeping-long = ap length (g .held) ∙ patched-length (bytesOf k) base (indexes start (g .p)) old
+    sweeping-long = ap length (g .held) ∙ patched-length k base (indexes start (g .p)) old
 
-    module _ {n : ℕ} (ne : n ≡ windowOf k) where
-      pub sweeping-end : n ≤ j → image ≡ patched (bytesOf k) base (indexes start (marksOf k set anchor)) old
-      sweeping-end h = let e = through-end (g .through) (omega arith) in rw e (g .held)
+    pub sweeping-end : n ≤ j → image ≡ patched k base (indexes start (marksOf k set anchor)) old
+    sweeping-end h = let e = through-end (g .through) (omega (arith, m .locations)) in rw e (g .held)
 
-      module _ (l : j < n) (small : at < 2 ^ 64) (ae : (at + start) % 2 ^ 64 ≡ anchor) where
+    module _ (l : j < n) where
+      module _ (small : at < 2 ^ 64) (ae : (at + start) % 2 ^ 64 ≡ anchor) where
         less : j < windowOf k
-        less = omega arith
+        less = omega (arith, m .locations)
 
         sweeping-room : x + bytesOf k ≤ length old
         sweeping-room = omega (arith, g .here, m .room at small ae, mul-le-mul-right (bytesOf k) (next less))
@@ -212,18 +211,15 @@ module _ {k : Class} {old : List ℕ} {base start anchor set at : ℕ} (m : Spac
         pub sweeping-addable : Addable k (bits % 2) image x
         sweeping-addable = record { once = omega arith; in-image = rw sweeping-long sweeping-room }
 
-        pub sweeping-low : length old * 1 < 2 ^ 63 → at < 2 ^ 63
-        sweeping-low h = omega (arith, m .room at small ae)
+        pub sweeping-on : length old * 1 < 2 ^ 63 → Fits w64 (x + c)
+        sweeping-on h = record { fits = omega (arith, m .bytes, sweeping-room) }
 
-        pub sweeping-on : {c : ℕ} → c ≡ bytesOf k → length old * 1 < 2 ^ 63 → Fits w64 (x + c)
-        sweeping-on ce h = record { fits = omega (arith, sweeping-room) }
-
-        module _ {new : List ℕ} {c : ℕ} (a : Added k base (bits % 2) image new x) (ce : c ≡ bytesOf k) (h : length old * 1 < 2 ^ 63) where
+        module _ {new : List ℕ} (a : Added k base (bits % 2) image new x) (h : length old * 1 < 2 ^ 63) where
           half : bits / 2 ≡ set / 2 ^ (j + 1)
           half = rw (g .rest) (shr-shr set j 1)
 
           next : x + c ≡ at + (j + 1) * bytesOf k
-          next = rw (ce, g .here) (omega arith)
+          next = rw (m .bytes, g .here) (omega arith)
 
           clear : bits % 2 ≡ 0 → Sweeping k old base start anchor set at new (bits / 2) (x + c) (j + 1)
           clear e = record { p = g .p; through = through-clear (g .through) less (rw (g .rest) at e); rest = half; here = next; held = a .none e ∙ g .held }
@@ -232,7 +228,7 @@ module _ {k : Class} {old : List ℕ} {base start anchor set at : ℕ} (m : Spac
           marks e =
               let f : set / 2 ^ j % 2 ≡ 1 = rw (g .rest) at e in
               let y = anchor + j * bytesOf k in
-              let P = Inside (bytesOf k) start (length old) in
+              let P = Inside k start (length old) in
               let inside = all-right P (g .p) _ (subst (All P) (through-head (g .through) less f) (m .patchable .in-image)) .0 in
               let is : x ≡ y - start = g .here ∙ index-is at start anchor (j * bytesOf k) ae (inside .0) (omega (arith, g .here, sweeping-room)) in
               record {
@@ -240,7 +236,7 @@ module _ {k : Class} {old : List ℕ} {base start anchor set at : ℕ} (m : Spac
                 through = through-set (g .through) less f;
                 rest = half;
                 here = next;
-                held = a .once e ∙ rw (is, g .held, patched-more) (sym (patched-one (bytesOf k) base start y (patched (bytesOf k) base (indexes start (g .p)) old)));
+                held = a .once e ∙ rw (is, g .held, patched-more) (sym (patched-one k base start y (patched k base (indexes start (g .p)) old)));
               }
 
           pub sweeping-next : Sweeping k old base start anchor set at new (bits / 2) (x + c) (j + 1)
@@ -251,7 +247,7 @@ module _ {k : Class} {old : List ℕ} {base start anchor set at : ℕ} (m : Spac
               go (suc zero) e = marks e
               go (suc (suc d)) e = absurd (omega arith)
 
-pub ruleset sweepings = (sweeping-begin, sweeping-long, sweeping-end, sweeping-addable, sweeping-low, sweeping-on, sweeping-next, run-bit, run-less, needs)
+pub ruleset sweepings = (sweeping-begin, sweeping-long, sweeping-end, sweeping-addable, sweeping-on, sweeping-next, run-bit, run-less, needs)
 
 -- how many windows fit
 module _ (k : Class) (size : ℕ) {d : ℕ} (de : d ≡ windowOf k * bytesOf k) where
@@ -279,24 +275,27 @@ module _ (k : Class) (size : ℕ) {d : ℕ} (de : d ≡ windowOf k * bytesOf k) 
 pub ruleset fittings = (windows-none, windows-some, windows-fit, needs)
 
 -- which it is
-module _ {k : Class} {start room : ℕ} {image : List ℕ} {anchor set : ℕ} (s : Sized k start room image anchor set) where
+module _ {k : Class} {n c all room start : ℕ} {image : List ℕ} {anchor set : ℕ} (s : Sized k n c all room start image anchor set) where
   pub bitmap-marks : Patchable k start image anchor set
   bitmap-marks = s .patchable
 
-  pub bitmap-spacious : {r : ℕ} → r < 2 ^ 64 → (r + start) % 2 ^ 64 ≡ anchor → r < room → Spacious k start image anchor set
+  pub bitmap-spacious : {r : ℕ} → r < 2 ^ 64 → (r + start) % 2 ^ 64 ≡ anchor → r < room → Spacious k n c start image anchor set
   bitmap-spacious {r} small e l =
       record {
+        locations = s .paced .locations;
+        bytes = s .paced .bytes;
         patchable = s .patchable;
-        room = λ d h f. let same : d ≡ r = omega arith in rw same (leb-true (r + windowOf k * bytesOf k) (length image) (sym (s .windows .are r) ∙ lt-ltb r room l));
+        room = λ d h f. let same : d ≡ r = omega arith in rw same (leb-true (r + windowOf k * bytesOf k) (length image) (sym (s .paced .windows .are r) ∙ lt-ltb r room l));
       }
 
-module _ (k : Class) {set r : ℕ} (e : set ≡ r) (g : r ≡ full k) where
-  pub bitmap-run : {image : List ℕ} {start anchor : ℕ} → Patchable k start image anchor set → Patchable k start image anchor (full k)
-  bitmap-run {image} {start} {anchor} = subst (λ (b : ℕ). Patchable k start image anchor b) (e ∙ g)
+  module _ (e : set ≡ all) where
+    pub bitmap-run : Runs k n start image anchor
+    bitmap-run =
+        record { locations = s .paced .locations; patchable = subst (λ (b : ℕ). Patchable k start image anchor b) (e ∙ s .paced .bits) (s .patchable) }
 
-  pub bitmap-ran : (old : List ℕ) {new : List ℕ} (base start anchor : ℕ) → new ≡ patched (bytesOf k) base (indexes start (marksOf k (full k) anchor)) old
-      → new ≡ patched (bytesOf k) base (indexes start (marksOf k set anchor)) old
-  bitmap-ran old {new} base start anchor = subst (λ (b : ℕ). new ≡ patched (bytesOf k) base (indexes start (marksOf k b anchor)) old) (sym (e ∙ g))
+    pub bitmap-ran : {new : List ℕ} (base : ℕ) → new ≡ patched k base (indexes start (marksOf k (full k) anchor)) image
+        → new ≡ patched k base (indexes start (marksOf k set anchor)) image
+    bitmap-ran {new} base = subst (λ (b : ℕ). new ≡ patched k base (indexes start (marksOf k b anchor)) image) (sym (e ∙ s .paced .bits))
 
 pub ruleset bitmaps = (bitmap-marks, bitmap-spacious, bitmap-run, bitmap-ran, needs)
 
@@ -304,38 +303,38 @@ pub ruleset bitmaps = (bitmap-marks, bitmap-spacious, bitmap-run, bitmap-ran, ne
 pub record Working (k : Class) (s old : List ℕ) (base start at behind : ℕ) (image : List ℕ) : Type 0 where
   pub list : List ℕ
   pub following : Following k s list at ((behind + bytesOf k) % 2 ^ 64)
-  pub held : image ≡ patched (bytesOf k) base (indexes start list) old
+  pub held : image ≡ patched k base (indexes start list) old
 
-module _ {k : Class} {s old : List ℕ} {base start : ℕ} (f : Targeted k s start old) where
+module _ {k : Class} {n step all room : ℕ} {s old : List ℕ} {base start : ℕ} (t : Aimed k n step all room s start old) where
   pub working-begin : Working k s old base start 0 0 old
   unfolding patched indexes
-  working-begin = record { list = []; following = following-begin k s _ (f .good .whole); held = refl }
+  working-begin = record { list = []; following = following-begin k s _ (t .targeted .good .whole); held = refl }
 
   module _ {at behind : ℕ} {image : List ℕ} (g : Working k s old base start at behind image) where
     pub working-long : length image ≡ length old
-    working-long = ap length (g .held) ∙ patched-length (bytesOf k) base (indexes start (g .list)) old
+    working-long = ap length (g .held) ∙ patched-length k base (indexes start (g .list)) old
 
     pub working-end : length s ≤ at → Patched k s base start old image
     working-end h l e = let q : l ≡ g .list = cc (following-end (g .following) h) in g .held ∙ rw q
 
-    module _ {anchor set next : ℕ} (word : Followed k s (g .list) (f .good .list) at anchor set next) where
-      in-image : All (Inside (bytesOf k) start (length image)) (marksOf k set anchor)
+    module _ {anchor set next : ℕ} (word : Followed k s (g .list) (t .targeted .good .list) at anchor set next) where
+      in-image : All (Inside k start (length image)) (marksOf k set anchor)
       in-image =
           let a = word .among in
-          let P = Inside (bytesOf k) start (length old) in
-          rw working-long (all-right P (g .list) (marksOf k set anchor) (all-left P (g .list ++ marksOf k set anchor) (a .rest) (rw (a .whole) at (f .in-image))))
+          let P = Inside k start (length old) in
+          rw working-long (all-right P (g .list) (marksOf k set anchor) (all-left P (g .list ++ marksOf k set anchor) (a .rest) (rw (a .whole) at (t .targeted .in-image))))
 
-      more : {new : List ℕ} {c b : ℕ} → c ≡ bytesOf k → (b + bytesOf k) % 2 ^ 64 ≡ next → new ≡ patched (bytesOf k) base (indexes start (marksOf k set anchor)) image
+      more : {new : List ℕ} {c b : ℕ} → c ≡ bytesOf k → (b + bytesOf k) % 2 ^ 64 ≡ next → new ≡ patched k base (indexes start (marksOf k set anchor)) image
           → Working k s old base start (at + c) b new
       more ce be u = rw ce (record { list = g .list ++ marksOf k set anchor; following = rw be (word .on); held = u ∙ rw (g .held, patched-more) })
 
-    module _ {x : ℕ} (l : at < length s) (e : x ≡ wordAt (bytesOf k) s at) where
+    module _ {x : ℕ} (l : at < length s) (e : x ≡ wordAt k s at) where
       module _ (even : x % 2 ≡ 0) where
-        alone : Followed k s (g .list) (f .good .list) at x 1 ((x + bytesOf k) % 2 ^ 64)
-        alone = follow-address (g .following) (f .good .is) l e even
+        alone : Followed k s (g .list) (t .targeted .good .list) at x 1 ((x + bytesOf k) % 2 ^ 64)
+        alone = follow-address (g .following) (t .targeted .good .is) l e even
 
-        word-inside : Inside (bytesOf k) start (length image) x
-        word-inside = let h : All (Inside (bytesOf k) start (length image)) (x ∷ []) = rw (one-mark k x) at (in-image alone) in h .0
+        word-inside : Inside k start (length image) x
+        word-inside = let h : All (Inside k start (length image)) (x ∷ []) = rw (one-mark k x) at (in-image alone) in h .0
 
         pub working-low : start ≤ x
         working-low = word-inside .0
@@ -343,31 +342,31 @@ module _ {k : Class} {s old : List ℕ} {base start : ℕ} (f : Targeted k s sta
         pub working-in : x - start + bytesOf k ≤ length image
         working-in = word-inside .1
 
-        pub working-one : {new : List ℕ} {c : ℕ} → c ≡ bytesOf k → new ≡ added (bytesOf k) base image (x - start) → Working k s old base start (at + c) x new
-        working-one ce u = more alone ce refl (u ∙ rw (one-mark k x) (sym (patched-one (bytesOf k) base start x image)))
+        pub working-one : {new : List ℕ} {c : ℕ} → c ≡ bytesOf k → new ≡ added k base image (x - start) → Working k s old base start (at + c) x new
+        working-one ce u = more alone ce refl (u ∙ rw (one-mark k x) (sym (patched-one k base start x image)))
 
       module _ {c a : ℕ} (small : x < spaceOf k) (odd : x % 2 ≡ 0 → ⊥) (ce : c ≡ bytesOf k) (ae : a ≡ (behind + c) % 2 ^ 64) where
         anchor : a ≡ (behind + bytesOf k) % 2 ^ 64
         anchor = ae ∙ rw ce
 
-        word : Followed k s (g .list) (f .good .list) at a (x / 2) ((a + windowOf k * bytesOf k) % 2 ^ 64)
-        word = rw anchor (follow-bitmap (g .following) (f .good .is) l e small odd)
+        word : Followed k s (g .list) (t .targeted .good .list) at a (x / 2) ((a + windowOf k * bytesOf k) % 2 ^ 64)
+        word = rw anchor (follow-bitmap (g .following) (t .targeted .good .is) l e small odd)
 
-        pub working-marks : {room : ℕ} → Windows k (length old) room → Sized k start room image a (x / 2)
-        working-marks w =
+        pub working-marks : Sized k n step all room start image a (x / 2)
+        working-marks =
             record {
               patchable = record { in-window = word .in-window; in-space = word .among .fits; in-image = in-image word };
-              windows = record { are = rw working-long (w .are) };
+              paced = rw working-long (t .paced);
             }
 
         more-of : {new : List ℕ} {d b : ℕ} → d ≡ windowOf k * bytesOf k → b ≡ (behind + d) % 2 ^ 64
-            → new ≡ patched (bytesOf k) base (indexes start (marksOf k (x / 2) a)) image → Working k s old base start (at + c) b new
+            → new ≡ patched k base (indexes start (marksOf k (x / 2) a)) image → Working k s old base start (at + c) b new
         more-of {d = d} de be u = more word ce (rw (be, ← de) (behind-on behind a d (bytesOf k) anchor)) u
 
 -- what the bitmap does comes first, since it shows where it stands
-pub working-more : {k : Class} {s old : List ℕ} {base start at behind : ℕ} {image new : List ℕ} {x c a d b : ℕ}
-    → new ≡ patched (bytesOf k) base (indexes start (marksOf k (x / 2) a)) image → a ≡ (behind + c) % 2 ^ 64 → b ≡ (behind + d) % 2 ^ 64 → x ≡ wordAt (bytesOf k) s at
-    → Working k s old base start at behind image → Targeted k s start old → at < length s → x < spaceOf k → (x % 2 ≡ 0 → ⊥) → c ≡ bytesOf k → d ≡ windowOf k * bytesOf k
+pub working-more : {k : Class} {n step all room : ℕ} {s old : List ℕ} {base start at behind : ℕ} {image new : List ℕ} {x c a d b : ℕ}
+    → new ≡ patched k base (indexes start (marksOf k (x / 2) a)) image → a ≡ (behind + c) % 2 ^ 64 → b ≡ (behind + d) % 2 ^ 64 → x ≡ wordAt k s at
+    → Working k s old base start at behind image → Aimed k n step all room s start old → at < length s → x < spaceOf k → (x % 2 ≡ 0 → ⊥) → c ≡ bytesOf k → d ≡ windowOf k * bytesOf k
     → Working k s old base start (at + c) b new
 working-more u ae be e g f l small odd ce de = more-of f g l e small odd ce ae de be u
 
@@ -379,11 +378,15 @@ pub ruleset workings = (working-begin, working-long, working-end, working-low, w
 
 -- ---- one class by two names
 module _ {k j : Class} (e : k ≡ j) (s old : List ℕ) (start : ℕ) where
-  pub targeted-to : Targeted k s start old → Targeted j s start old
-  targeted-to h = subst (λ (i : Class). Targeted i s start old) e h
+  -- the numbers are said of the class that flags name, and the table's of the class that was handed in
+  pub aimed-to : {step all room : ℕ} → step ≡ bytesOf k → all ≡ full k → Windows k (length old) room → Targeted k s start old → Aimed j (windowOf j) step all room s start old
+  aimed-to {step} {all} {room} se ae w h =
+      subst (λ (i : Class). Aimed i (windowOf i) step all room s start old) e
+      (record { targeted = h; paced = record { locations = refl; bytes = se; bits = ae; windows = w } })
 
-  pub targeted-from : Targeted j s start old → Targeted k s start old
-  targeted-from h = subst (λ (i : Class). Targeted i s start old) (sym e) h
+  pub aimed-from : {n step all room : ℕ} → n ≡ windowOf k → Aimed j (windowOf j) step all room s start old → Aimed k n step all room s start old
+  aimed-from {n} {step} {all} {room} ne h =
+      rw ne (subst (λ (i : Class). Aimed i (windowOf i) step all room s start old) (sym e) h)
 
   module _ (base : ℕ) {new : List ℕ} where
     pub patched-to : Patched k s base start old new → Patched j s base start old new
@@ -392,7 +395,7 @@ module _ {k j : Class} (e : k ≡ j) (s old : List ℕ) (start : ℕ) where
     pub patched-from : Patched j s base start old new → Patched k s base start old new
     patched-from h = subst (λ (i : Class). Patched i s base start old new) (sym e) h
 
-pub ruleset classes = (targeted-to, targeted-from, patched-to, patched-from, needs)
+pub ruleset classes = (class-is, aimed-to, aimed-from, patched-to, patched-from, needs)
 
 -- ---- the end of an image
 module _ (k : Class) (start size : ℕ) where
@@ -444,18 +447,20 @@ pub ruleset ends = (end-short, end-past, end-space, end-image, end-last, end-sum
 
 -- ---- applying as a whole
 pub over-is : (k : Class) (base m : ℕ) → m + 1 ≡ 2 ^ bitsOf k → base < 2 ^ 64 → ltb m base ≡ above k base
-over-is Four base m e h = let f : m ≡ 4294967295 = omega arith in rw f
-over-is Eight base m e h = le-ltb m base (omega arith)
+over-is k base m =
+    by-bytes (λ (n : ℕ). m + 1 ≡ 2 ^ (8 * n) → base < 2 ^ 64 → ltb m base ≡ cond (eqb n 4) (ltb 4294967295 base) false)
+    (λ e h. let f : m ≡ 4294967295 = omega arith in rw f)
+    (λ e h. le-ltb m base (omega arith)) k
 
 module _ (k : Class) (s : List ℕ) (base start : ℕ) (old : List ℕ) where
   abbrev aims : Outcome (List ℕ)
   aims = targets k s base start (length old)
 
-  changed-refused : {w : Refusal} {p : ℕ} → aims ≡ refused w p → old ≡ changed (bytesOf k) base start aims old
+  changed-refused : {w : Refusal} {p : ℕ} → aims ≡ refused w p → old ≡ changed k base start aims old
   unfolding changed
   changed-refused e = rw e
 
-  changed-accepted : {l : List ℕ} → aims ≡ accepted l → changed (bytesOf k) base start aims old ≡ patched (bytesOf k) base (indexes start l) old
+  changed-accepted : {l : List ℕ} → aims ≡ accepted l → changed k base start aims old ≡ patched k base (indexes start l) old
   unfolding changed
   changed-accepted e = rw e
 
@@ -469,7 +474,7 @@ module _ (k : Class) (s : List ℕ) (base start : ℕ) (old : List ℕ) where
     is =
         h
         ∙ ap foundOf
-        (contained-space k s (between start n) (inside (bytesOf k) start (length old)) ne ∙ sym (targets-in k s base start (length old) (sym be ∙ bf)))
+        (contained-space k s (between start n) (inside k start (length old)) ne ∙ sym (targets-in k s base start (length old) (sym be ∙ bf)))
 
     pub apply-refused : {a : Answer} {w : Refusal} {p : ℕ} → f ≡ found.Refused w p → a ≡ refusal w p → AppliesIn k s base start old a old
     apply-refused e q =
@@ -480,7 +485,7 @@ module _ (k : Class) (s : List ℕ) (base start : ℕ) (old : List ℕ) where
       has : Counted aims m
       has = found-count aims (sym is ∙ e)
 
-      both : (decode k s ≡ accepted (has .list)) × All (Inside (bytesOf k) start (length old)) (has .list)
+      both : (decode k s ≡ accepted (has .list)) × All (Inside k start (length old)) (has .list)
       both = targets-accepted k s base start (length old) (has .is)
 
       pub apply-targeted : Targeted k s start old

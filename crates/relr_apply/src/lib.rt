@@ -2,21 +2,23 @@
 ghost use mathlib.Core.Path.{_≡_};
 ghost use Prim.Native.Nat.{_+_, _≤_};
 ghost use lib.ListN.{length};
-ghost use Rattle.word.specs.Class.{bytesOf};
+ghost use Rattle.word.specs.Class.{bytesOf, windowOf};
 ghost use Rattle.relr_table.specs.Table.{above, indexes, added, patched};
 ghost use Rattle.relr_table.specs.Contract.{AppliesIn};
 ghost use Rattle.relr_table.specs.Inner.{flagged, marksOf, full};
-ghost use Rattle.relr_apply.specs.Inner.{Addable, Added, Patchable, Spacious, Windows, Sized, Targeted, Patched, End};
+ghost use Rattle.relr_apply.specs.Inner.{Addable, Added, Patchable, Runs, Spacious, Windows, Sized, Targeted, Aimed, Patched, End};
 use answer::Answer;
 use answer::Found;
 use answer::Refusal;
 use relr_table::place;
+use word::ByteOrder;
 use word::Class;
+use word::Size;
 
 // Adds the base to the word at x.
 fn add_at(k: Class, image: &mut [u8], x: usize, base: u64)
     requires { ⌜ x + bytesOf k ≤ length (now image) ⌝ }
-    ensures { λ _. ⌜ now (image .exit) ≡ added (bytesOf k) base (now (image .entry)) x ⌝ }
+    ensures { λ _. ⌜ now (image .exit) ≡ added k base (now (image .entry)) x ⌝ }
 {
     let w = word::load(k, image, x);
     word::store(k, &mut *image, x, word::add(k, w, base));
@@ -34,7 +36,7 @@ fn add_times(k: Class, image: &mut [u8], x: usize, base: u64, times: u64)
 // Adds the base at each location that the bits mark from an offset on.
 fn patch_marks(k: Class, image: &mut [u8], base: u64, start: u64, anchor: u64, set: u64)
     requires { ⌜ Patchable k start (now image) anchor set ⌝ }
-    ensures { λ _. ⌜ now (image .exit) ≡ patched (bytesOf k) base (indexes start (marksOf k set anchor)) (now (image .entry)) ⌝ }
+    ensures { λ _. ⌜ now (image .exit) ≡ patched k base (indexes start (marksOf k set anchor)) (now (image .entry)) ⌝ }
 {
     let mut bits = set;
     while bits != 0 {
@@ -45,12 +47,11 @@ fn patch_marks(k: Class, image: &mut [u8], base: u64, start: u64, anchor: u64, s
     }
 }
 
-// The same where all bits are set. (The compiler makes the loop wide.)
-fn patch_run(k: Class, image: &mut [u8], base: u64, start: u64, anchor: u64)
-    requires { ⌜ Patchable k start (now image) anchor (full k) ⌝ }
-    ensures { λ _. ⌜ now (image .exit) ≡ patched (bytesOf k) base (indexes start (marksOf k (full k) anchor)) (now (image .entry)) ⌝ }
+// The same where all bits are set, n of them. (Where words are low byte first the compiler makes the loop wide.)
+fn patch_run(k: Class, n: u64, image: &mut [u8], base: u64, start: u64, anchor: u64)
+    requires { ⌜ Runs k n start (now image) anchor ⌝ }
+    ensures { λ _. ⌜ now (image .exit) ≡ patched k base (indexes start (marksOf k (full k) anchor)) (now (image .entry)) ⌝ }
 {
-    let n = k.window() as u64;
     let mut j: u64 = 0;
     while j < n {
         let x = anchor + j * (k.bytes() as u64);
@@ -60,18 +61,26 @@ fn patch_run(k: Class, image: &mut [u8], base: u64, start: u64, anchor: u64)
 }
 
 // The same where the whole window lies inside the image: a location whose bit is clear gets 0 added, so that no branch hangs on a bit.
-fn patch_window(k: Class, image: &mut [u8], base: u64, start: u64, anchor: u64, set: u64)
-    requires { ⌜ Spacious k start (now image) anchor set ⌝ }
-    ensures { λ _. ⌜ now (image .exit) ≡ patched (bytesOf k) base (indexes start (marksOf k set anchor)) (now (image .entry)) ⌝ }
+fn patch_window(
+    k: Class,
+    window: u64,
+    step: u64,
+    image: &mut [u8],
+    base: u64,
+    start: u64,
+    anchor: u64,
+    set: u64,
+)
+    requires { ⌜ Spacious k window step start (now image) anchor set ⌝ }
+    ensures { λ _. ⌜ now (image .exit) ≡ patched k base (indexes start (marksOf k set anchor)) (now (image .entry)) ⌝ }
 {
     let at = std::num::wrapping_sub_u64(anchor, start) as usize;
-    let window = k.window() as u64;
     let mut bits = set;
     let mut x = at;
     let mut j: u64 = 0;
     while j < window {
         add_times(k, &mut *image, x, base, bits % 2);
-        x += place::step(k, at) as usize;
+        x += step as usize;
         bits = bits / 2;
         j += 1;
     }
@@ -90,17 +99,28 @@ fn windows(k: Class, size: usize) -> u64
 }
 
 // Whichever is fastest. (Bits that are all set are many.)
-fn patch_bitmap(k: Class, image: &mut [u8], base: u64, start: u64, room: u64, anchor: u64, set: u64)
-    requires { ⌜ Sized k start room (now image) anchor set ⌝ }
-    ensures { λ _. ⌜ now (image .exit) ≡ patched (bytesOf k) base (indexes start (marksOf k set anchor)) (now (image .entry)) ⌝ }
+fn patch_bitmap(
+    k: Class,
+    window: u64,
+    step: u64,
+    all: u64,
+    room: u64,
+    image: &mut [u8],
+    base: u64,
+    start: u64,
+    anchor: u64,
+    set: u64,
+)
+    requires { ⌜ Sized k window step all room start (now image) anchor set ⌝ }
+    ensures { λ _. ⌜ now (image .exit) ≡ patched k base (indexes start (marksOf k set anchor)) (now (image .entry)) ⌝ }
 {
     if place::crowded(k, set) {
-        if set == place::full_bits(k) {
-            patch_run(k, image, base, start, anchor);
+        if set == all {
+            patch_run(k, window, image, base, start, anchor);
             return;
         }
         if std::num::wrapping_sub_u64(anchor, start) < room {
-            patch_window(k, image, base, start, anchor, set);
+            patch_window(k, window, step, image, base, start, anchor, set);
             return;
         }
     }
@@ -108,14 +128,23 @@ fn patch_bitmap(k: Class, image: &mut [u8], base: u64, start: u64, room: u64, an
 }
 
 // The second pass, over a table that the first accepted, whose words all lie inside the image. The location a word before *where* is kept, and
-// wraps: beyond the space no bitmap has a bit set.
-fn patch(k: Class, s: &[u8], base: u64, start: u64, image: &mut [u8])
-    requires { ⌜ Targeted k (now s) start (now image) ⌝ }
+// wraps: beyond the space no bitmap has a bit set. (The numbers that it goes by are handed in: so the compiler puts it in line for each class.)
+fn patch(
+    k: Class,
+    window: u64,
+    step: u64,
+    all: u64,
+    room: u64,
+    s: &[u8],
+    base: u64,
+    start: u64,
+    image: &mut [u8],
+)
+    requires { ⌜ Aimed k window step all room (now s) start (now image) ⌝ }
     ensures { λ _. ⌜ Patched k (now (s .entry)) base start (now (image .entry)) (now (image .exit)) ⌝ }
 {
     let c = k.bytes() as usize;
     let stride = k.stride();
-    let room = windows(k, image.len());
     let mut at: usize = 0;
     let mut behind: u64 = 0;
     while at < s.len() {
@@ -126,27 +155,60 @@ fn patch(k: Class, s: &[u8], base: u64, start: u64, image: &mut [u8])
             behind = x;
         } else {
             let anchor = std::num::wrapping_add_u64(behind, c as u64);
-            patch_bitmap(k, &mut *image, base, start, room, anchor, x / 2);
+            patch_bitmap(
+                k,
+                window,
+                step,
+                all,
+                room,
+                &mut *image,
+                base,
+                start,
+                anchor,
+                x / 2,
+            );
             behind = std::num::wrapping_add_u64(behind, stride);
         }
     }
 }
 
-// The same by a flag for the class and for each class, so that the compiler makes a loop for each.
-fn patch_by(wide: bool, s: &[u8], base: u64, start: u64, image: &mut [u8])
-    requires { ⌜ Targeted (flagged wide) (now s) start (now image) ⌝ }
-    ensures { λ _. ⌜ Patched (flagged wide) (now (s .entry)) base start (now (image .entry)) (now (image .exit)) ⌝ }
+// The same by flags for the class and for each class, so that the compiler makes a loop for each.
+fn patch_by(
+    wide: bool,
+    big: bool,
+    step: u64,
+    all: u64,
+    room: u64,
+    s: &[u8],
+    base: u64,
+    start: u64,
+    image: &mut [u8],
+)
+    requires { ⌜ Aimed (flagged wide big) (windowOf (flagged wide big)) step all room (now s) start (now image) ⌝ }
+    ensures { λ _. ⌜ Patched (flagged wide big) (now (s .entry)) base start (now (image .entry)) (now (image .exit)) ⌝ }
 {
-    patch(place::chosen(wide), s, base, start, image);
+    let k = place::chosen(wide, big);
+    patch(k, k.window() as u64, step, all, room, s, base, start, image);
 }
 
 fn patch_class(k: Class, s: &[u8], base: u64, start: u64, image: &mut [u8])
     requires { ⌜ Targeted k (now s) start (now image) ⌝ }
     ensures { λ _. ⌜ Patched k (now (s .entry)) base start (now (image .entry)) (now (image .exit)) ⌝ }
 {
-    match k {
-        Class::Four => patch_by(false, s, base, start, image),
-        Class::Eight => patch_by(true, s, base, start, image),
+    let step = place::step(k, image.len());
+    let all = place::full_bits(k);
+    let room = windows(k, image.len());
+    let size = k.size;
+    let order = k.order;
+    match order {
+        ByteOrder::Little => match size {
+            Size::Four => patch_by(false, false, step, all, room, s, base, start, image),
+            Size::Eight => patch_by(true, false, step, all, room, s, base, start, image),
+        },
+        ByteOrder::Big => match size {
+            Size::Four => patch_by(false, true, step, all, room, s, base, start, image),
+            Size::Eight => patch_by(true, true, step, all, room, s, base, start, image),
+        },
     }
 }
 

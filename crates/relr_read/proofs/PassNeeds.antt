@@ -20,7 +20,7 @@ use Rattle.answer.specs.Outcome.{foundOf, filled, itself}
 use Rattle.word.specs.declared.Class.{Class}
 use Rattle.word.specs.Class.{bytesOf, windowOf}
 use Rattle.word.specs.Word.{wordAt}
-use Rattle.word.specs.Class.Laws.{bytes-most}
+use Rattle.word.specs.Class.Laws.{bytes-most, class-is}
 use Rattle.relr_table.specs.Inner.{marksOf, full}
 use Rattle.relr_read.specs.Inner.{Markable, Bounded, Ample, Laid, Fillable, Filled}
 use Rattle.relr_table.proofs.PlaceNeeds.{one-mark}
@@ -310,7 +310,7 @@ module _ {k : Class} {s : List ℕ} {n : ℕ} {old : List ℕ} (f : Fillable k s
             long = u .long ∙ g .long;
           })
 
-    module _ {x : ℕ} (l : at < length s) (e : x ≡ wordAt (bytesOf k) s at) where
+    module _ {x : ℕ} (l : at < length s) (e : x ≡ wordAt k s at) where
       module _ (even : x % 2 ≡ 0) where
         alone : Followed k s (g .list) (f .good .list) at x 1 ((x + bytesOf k) % 2 ^ 64)
         alone = follow-address (g .following) (f .good .is) l e even
@@ -351,7 +351,7 @@ module _ {k : Class} {s : List ℕ} {n : ℕ} {old : List ℕ} (f : Fillable k s
 
 -- what the bitmap says comes first, since it shows where it stands
 pub reading-more : {k : Class} {s : List ℕ} {n : ℕ} {old : List ℕ} {at behind : ℕ} {column new : List ℕ} {i x c a d r b : ℕ} → Laid n column new i r (marksOf k (x / 2) a)
-    → a ≡ (behind + c) % 2 ^ 64 → b ≡ (behind + d) % 2 ^ 64 → x ≡ wordAt (bytesOf k) s at → Reading k s n old at behind column i → Fillable k s n old → at < length s → x < spaceOf k
+    → a ≡ (behind + c) % 2 ^ 64 → b ≡ (behind + d) % 2 ^ 64 → x ≡ wordAt k s at → Reading k s n old at behind column i → Fillable k s n old → at < length s → x < spaceOf k
     → (x % 2 ≡ 0 → ⊥) → c ≡ bytesOf k → d ≡ windowOf k * bytesOf k → Reading k s n old (at + c) b new r
 reading-more u ae be e g f l small odd ce de = more-of f g l e small odd ce ae de be u
 
@@ -376,7 +376,7 @@ module _ {k j : Class} (e : k ≡ j) (s : List ℕ) (n : ℕ) (old : List ℕ) w
     pub filled-from : Filled j s old new → Filled k s old new
     filled-from h = subst (λ (i : Class). Filled i s old new) (sym e) h
 
-pub ruleset classes = (fillable-to, fillable-from, filled-to, filled-from, needs)
+pub ruleset classes = (class-is, fillable-to, fillable-from, filled-to, filled-from, needs)
 
 -- ---- a read for a class: f is what the first pass found
 module _ (k : Class) (s old : List ℕ) {f : Found} (is : f ≡ foundOf (decode k s)) {n : ℕ} (e : f ≡ Count n) (fits : n ≤ length old) where

@@ -7,7 +7,9 @@ ghost use Rattle.relr_read.specs.Inner.{Markable, Bounded, Ample, Laid, 
 use answer::Answer;
 use answer::Found;
 use relr_table::place;
+use word::ByteOrder;
 use word::Class;
+use word::Size;
 
 // Puts the locations that the bits mark from an offset on into a column, and returns the index after them.
 fn fill_marks(k: Class, column: &mut [u64], at: usize, anchor: u64, set: u64) -> usize
@@ -116,21 +118,29 @@ fn fill(k: Class, s: &[u8], count: usize, column: &mut [u64])
     }
 }
 
-// The same by a flag for the class and for each class, so that the compiler makes a loop for each.
-fn fill_by(wide: bool, s: &[u8], count: usize, column: &mut [u64])
-    requires { ⌜ Fillable (flagged wide) (now s) count (now column) ⌝ }
-    ensures { λ _. ⌜ Filled (flagged wide) (now (s .entry)) (now (column .entry)) (now (column .exit)) ⌝ }
+// The same by flags for the class and for each class, so that the compiler makes a loop for each.
+fn fill_by(wide: bool, big: bool, s: &[u8], count: usize, column: &mut [u64])
+    requires { ⌜ Fillable (flagged wide big) (now s) count (now column) ⌝ }
+    ensures { λ _. ⌜ Filled (flagged wide big) (now (s .entry)) (now (column .entry)) (now (column .exit)) ⌝ }
 {
-    fill(place::chosen(wide), s, count, column);
+    fill(place::chosen(wide, big), s, count, column);
 }
 
 fn fill_class(k: Class, s: &[u8], count: usize, column: &mut [u64])
     requires { ⌜ Fillable k (now s) count (now column) ⌝ }
     ensures { λ _. ⌜ Filled k (now (s .entry)) (now (column .entry)) (now (column .exit)) ⌝ }
 {
-    match k {
-        Class::Four => fill_by(false, s, count, column),
-        Class::Eight => fill_by(true, s, count, column),
+    let size = k.size;
+    let order = k.order;
+    match order {
+        ByteOrder::Little => match size {
+            Size::Four => fill_by(false, false, s, count, column),
+            Size::Eight => fill_by(true, false, s, count, column),
+        },
+        ByteOrder::Big => match size {
+            Size::Four => fill_by(false, true, s, count, column),
+            Size::Eight => fill_by(true, true, s, count, column),
+        },
     }
 }
 

@@ -1,6 +1,6 @@
 -- How large the place of a refusal can be, and how long a list that is read and a table that is written.
 -- Assumes nothing.
-use Prim.Native.Nat.{ℕ, suc, _+_, _*_, _/_, _%_, _≤_, _<_}
+use Prim.Native.Nat.{ℕ, _-_, suc, _+_, _*_, _/_, _%_, _≤_, _<_}
 use mathlib.Core.Path.{_≡_, ap}
 use mathlib.Core.List.{List, [], _∷_}
 use mathlib.Core.Bool.{Bool, cond}
@@ -14,9 +14,8 @@ use Rattle.answer.specs.Outcome.{Outcome, accepted, refused, inputLimit, listLi
 use Rattle.answer.specs.Said.{OfOutcome, OfList, AtMost, Bounded, of-map, of-cond, of-limited, of-after, list-of, list-map, list-limited, list-after}
 use Rattle.answer.specs.Outcome.Laws.{limited-accepted}
 use Rattle.word.specs.declared.Class.{Class}
-use Rattle.word.specs.declared.Class.the-variants.{Four, Eight}
 use Rattle.word.specs.Class.{bytesOf, windowOf}
-use Rattle.word.specs.Class.Laws.{bytes-least}
+use Rattle.word.specs.Class.Laws.{bytes-least, by-bytes}
 use Rattle.word.specs.Word.{wordsOf}
 use Rattle.word.specs.Word.Laws.{words-first, words-length}
 use Rattle.relr_table.specs.Words.{Where, nowhere, read}
@@ -44,46 +43,38 @@ module _ (k : Class) where
   some = omega (arith, bytes-least k)
 
   -- the words of a table
-  table-words : (s : List ℕ) → length (wordsOf (bytesOf k) s) ≡ length s / bytesOf k
-  table-words s = rw words-first (words-length (bytesOf k) (length s / bytesOf k) s)
+  table-words : (s : List ℕ) → length (wordsOf k s) ≡ length s / bytesOf k
+  table-words s = rw words-first (words-length k (length s / bytesOf k) s)
 
   -- the most offsets of a table
   abbrev most : ℕ
   most = inputLimit / bytesOf k * windowOf k
 
   words-few : (a b : ℕ) → a ≤ b → a / bytesOf k ≤ b / bytesOf k
-  words-few = go k
-    where
-      go : (j : Class) (a b : ℕ) → a ≤ b → a / bytesOf j ≤ b / bytesOf j
-      go Four a b h = omega arith
-      go Eight a b h = omega arith
+  words-few = by-bytes (λ (n : ℕ). (a b : ℕ) → a ≤ b → a / n ≤ b / n) (λ a b h. omega arith) (λ a b h. omega arith) k
 
   words-long : (a : ℕ) → a / bytesOf k * bytesOf k ≤ a
-  words-long = go k
-    where
-      go : (j : Class) (a : ℕ) → a / bytesOf j * bytesOf j ≤ a
-      go Four a = omega arith
-      go Eight a = omega arith
+  words-long = by-bytes (λ (n : ℕ). (a : ℕ) → a / n * n ≤ a) (λ a. omega arith) (λ a. omega arith) k
 
   module _ (s : List ℕ) (h : length s ≤ inputLimit) where
     long : OfList (λ (l : List ℕ). length l ≤ most) (parse k s)
     unfolding parse
     long =
-        let words = read (bytesOf k) (windowOf k) (spaceOf k) (wordsOf (bytesOf k) s) 0 nowhere in
+        let words = read (bytesOf k) (windowOf k) (spaceOf k) (wordsOf k s) 0 nowhere in
         of-cond (OfList (λ (l : List ℕ). length l ≤ most)) (eqb (length s % bytesOf k) 0) words (refused Missing (length s))
-        (list-map (λ (l : List ℕ). length l ≤ length (wordsOf (bytesOf k) s) * windowOf k) (λ (l : List ℕ). length l ≤ most) words
+        (list-map (λ (l : List ℕ). length l ≤ length (wordsOf k s) * windowOf k) (λ (l : List ℕ). length l ≤ most) words
         (λ l q. omega (arith, ap (λ (m : ℕ). m * windowOf k) (table-words s), mul-le-mul-right (windowOf k) (words-few (length s) inputLimit h)))
-        (words-most (bytesOf k) (windowOf k) (spaceOf k) some (wordsOf (bytesOf k) s) 0 nowhere))
+        (words-most (bytesOf k) (windowOf k) (spaceOf k) some (wordsOf k s) 0 nowhere))
         tt
 
     place : OfOutcome (AtMost inputLimit) (parse k s)
     unfolding parse
     place =
-        let words = read (bytesOf k) (windowOf k) (spaceOf k) (wordsOf (bytesOf k) s) 0 nowhere in
+        let words = read (bytesOf k) (windowOf k) (spaceOf k) (wordsOf k s) 0 nowhere in
         of-cond (OfOutcome (AtMost inputLimit)) (eqb (length s % bytesOf k) 0) words (refused Missing (length s))
-        (of-map (AtMost (0 + length (wordsOf (bytesOf k) s) * bytesOf k)) (AtMost inputLimit) words
+        (of-map (AtMost (0 + length (wordsOf k s) * bytesOf k)) (AtMost inputLimit) words
         (λ why p q. omega (arith, ap (λ (m : ℕ). m * bytesOf k) (table-words s), words-long (length s)))
-        (words-place (bytesOf k) (windowOf k) (spaceOf k) some (wordsOf (bytesOf k) s) 0 nowhere))
+        (words-place (bytesOf k) (windowOf k) (spaceOf k) some (wordsOf k s) 0 nowhere))
         h
 
   pub decode-bounded : (s : List ℕ) → Bounded inputLimit most (decode k s)
@@ -97,11 +88,7 @@ module _ (k : Class) where
   -- ---- where a table is applied
   -- a place of the input is no larger than an index of a list
   input-few : inputLimit ≤ most
-  input-few = go k
-    where
-      go : (j : Class) → inputLimit ≤ inputLimit / bytesOf j * windowOf j
-      go Four = omega (arith, list-most)
-      go Eight = omega (arith, list-most)
+  input-few = by-bytes (λ (n : ℕ). inputLimit ≤ inputLimit / n * (8 * n - 1)) (omega (arith, list-most)) (omega (arith, list-most)) k
 
   contained-place : (test : ℕ → Bool) (o : Outcome (List ℕ)) → Bounded inputLimit most o → OfOutcome (AtMost most) (contained test o)
   unfolding contained
@@ -118,10 +105,10 @@ module _ (k : Class) where
   pub targets-bounded : (s : List ℕ) (base start size : ℕ) → Bounded most most (targets k s base start size)
   unfolding targets
   targets-bounded s base start size =
-      let o = contained (inside (bytesOf k) start size) (decode k s) in
+      let o = contained (inside k start size) (decode k s) in
       record {
-        place = of-cond (OfOutcome (AtMost most)) (above k base) (refused Base 0) o (omega arith) (contained-place (inside (bytesOf k) start size) (decode k s) (decode-bounded s));
-        long = of-cond (OfList (λ (l : List ℕ). length l ≤ most)) (above k base) (refused Base 0) o tt (contained-long (inside (bytesOf k) start size) (decode k s) (decode-bounded s));
+        place = of-cond (OfOutcome (AtMost most)) (above k base) (refused Base 0) o (omega arith) (contained-place (inside k start size) (decode k s) (decode-bounded s));
+        long = of-cond (OfList (λ (l : List ℕ). length l ≤ most)) (above k base) (refused Base 0) o tt (contained-long (inside k start size) (decode k s) (decode-bounded s));
       }
 
 -- ---- what is written

@@ -55,16 +55,16 @@ module _ {k : Class} {s list : List ℕ} {at p : ℕ} (h : Following k s list at
   pub following-end : length s ≤ at → wordsRead k s ≡ accepted list
   following-end = ahead-end (h .ahead)
 
-  module _ {l : List ℕ} {x : ℕ} (good : wordsRead k s ≡ accepted l) (lt : at < length s) (e : x ≡ wordAt (bytesOf k) s at) where
+  module _ {l : List ℕ} {x : ℕ} (good : wordsRead k s ≡ accepted l) (lt : at < length s) (e : x ≡ wordAt k s at) where
     -- what an accepted word says
     past : {anchor set next : ℕ} (v m : ℕ) → length s ≡ at + bytesOf k + m * bytesOf k
         → wordsRead k s
         ≡ after list
         (cond (fit (bytesOf k) (spaceOf k) (marksOf k set anchor))
-        (after (marksOf k set anchor) (readOf k (firstWords (bytesOf k) m (drop (at + bytesOf k) s)) (at + bytesOf k) (from v))) (refused Space at))
+        (after (marksOf k set anchor) (readOf k (firstWords k m (drop (at + bytesOf k) s)) (at + bytesOf k) (from v))) (refused Space at))
         → set < 2 ^ windowOf k → next ≡ v % 2 ^ 64 → Followed k s list l at anchor set next
     past {anchor} {set} {next} v m long so small wrap =
-        let a = among-read at (readOf k (firstWords (bytesOf k) m (drop (at + bytesOf k) s)) (at + bytesOf k) (from v)) (sym so ∙ good) in
+        let a = among-read at (readOf k (firstWords k m (drop (at + bytesOf k) s)) (at + bytesOf k) (from v)) (sym so ∙ good) in
         record {
           in-window = small;
           among = a;
@@ -110,11 +110,11 @@ module _ {k : Class} {s list : List ℕ} {at p : ℕ} (h : Following k s list at
 
         go : (w : Where) → Wraps w p
             → (m : ℕ) × (length s ≡ at + bytesOf k + m * bytesOf k)
-            × (wordsRead k s ≡ after list (readOf k (x ∷ firstWords (bytesOf k) m (drop (at + bytesOf k) s)) at w))
+            × (wordsRead k s ≡ after list (readOf k (x ∷ firstWords k m (drop (at + bytesOf k) s)) at w))
             → Followed k s list l at p (x / 2) ((p + windowOf k * bytesOf k) % 2 ^ 64)
         go nowhere t (m, long, so) = never Order (so ∙ ap (after list) (read-unanchored (bytesOf k) (windowOf k) (spaceOf k) x _ at (omega arith)))
         go (from u) wrap (m, long, so) =
-            let o = readOf k (firstWords (bytesOf k) m (drop (at + bytesOf k) s)) (at + bytesOf k) (from (u + windowOf k * bytesOf k)) in
+            let o = readOf k (firstWords k m (drop (at + bytesOf k) s)) (at + bytesOf k) (from (u + windowOf k * bytesOf k)) in
             let f = so ∙ ap (after list) (odd-read (bytesOf k) (windowOf k) (spaceOf k) x _ at u (omega arith)) in
             let a : Among k list l u (x / 2) = among-read at o (sym f ∙ good) in
             let same = ap (λ (q : List ℕ). after list (cond (fit (bytesOf k) (spaceOf k) q) (after q o) (refused Space at))) (anchor-is u (a .fits) small wrap) in

@@ -29,8 +29,8 @@ module _ (k : Class) (l : List ℕ) (h : Writable k l) where
   unfolding wordsRead
   table-fewest t e =
       let d = decode-good k t l e in
-      let m = table-least (bytesOf k) (windowOf k) (spaceOf k) (omega (arith, bytes-least k)) l (wordsOf (bytesOf k) t) (legal k l h) (d .1) in
-      let n : length (wordsOf (bytesOf k) t) ≡ length t / bytesOf k = ap length (words-first (bytesOf k) t) ∙ words-length (bytesOf k) (length t / bytesOf k) t in
+      let m = table-least (bytesOf k) (windowOf k) (spaceOf k) (omega (arith, bytes-least k)) l (wordsOf k t) (legal k l h) (d .1) in
+      let n : length (wordsOf k t) ≡ length t / bytesOf k = ap length (words-first k t) ∙ words-length k (length t / bytesOf k) t in
       let q : length (table (bytesOf k) (windowOf k) l) ≤ length t / bytesOf k = omega arith in
       omega (arith, bytes-long k l, mul-le-mul-right (bytesOf k) q, div-add-mod' (length t) (bytesOf k))
 
@@ -43,7 +43,7 @@ module _ (k : Class) (l : List ℕ) (h : Writable k l) where
         need = length (tableBytes k l);
         least = table-fewest;
         some = tableBytes k l;
-        some-bytes = bytes-words-are (bytesOf k) (table (bytesOf k) (windowOf k) l);
+        some-bytes = bytes-words-are k (table (bytesOf k) (windowOf k) l);
         some-long = refl;
         some-is = table-decodes k l h;
         most = table-most k l h;

@@ -53,8 +53,8 @@ Early why p = numberOf why < numberOf Outside
 pub decode-early : (k : Class) (s : List ℕ) → OfOutcome Early (decode k s)
 unfolding decode parse
 decode-early k s =
-    let words = read (bytesOf k) (windowOf k) (spaceOf k) (wordsOf (bytesOf k) s) 0 nowhere in
+    let words = read (bytesOf k) (windowOf k) (spaceOf k) (wordsOf k s) 0 nowhere in
     of-limited Early inputLimit (length s) (parse k s) (omega arith)
     (λ h. of-cond (OfOutcome Early) (eqb (length s % bytesOf k) 0) words (refused Missing (length s))
     (each-word (bytesOf k) (windowOf k) (spaceOf k) (omega (arith, bytes-least k)) (λ (m i : ℕ) (o : Outcome (List ℕ)). OfOutcome Early o)
-    (λ i. tt) (λ m i. omega arith) (λ m i. omega arith) (λ m i xs o h q. of-after Early xs o q) (wordsOf (bytesOf k) s) 0 nowhere) (omega arith))
+    (λ i. tt) (λ m i. omega arith) (λ m i. omega arith) (λ m i xs o h q. of-after Early xs o q) (wordsOf k s) 0 nowhere) (omega arith))

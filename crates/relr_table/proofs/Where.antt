@@ -12,10 +12,12 @@ use Rattle.answer.specs.declared.Refusal.the-variants.{Space}
 use Rattle.answer.specs.Outcome.{accepted, refused, after, inputLimit}
 use Rattle.answer.specs.Outcome.Laws.{after-none}
 use Rattle.word.specs.declared.Class.{Class}
-use Rattle.word.specs.declared.Class.the-variants.{Eight}
-use Rattle.word.specs.Class.{bytesOf, windowOf}
+use Rattle.word.specs.declared.Size.the-variants.{Eight}
+use Rattle.word.specs.declared.ByteOrder.{ByteOrder}
+use Rattle.word.specs.declared.ByteOrder.the-variants.{Little, Big}
+use Rattle.word.specs.Class.{classIn, bytesOf, windowOf}
 use Rattle.word.specs.Class.Laws.{bytes-least}
-use Rattle.word.specs.Word.{valueOf, bytesIn, firstWords, wordsOf, bytesOfWords}
+use Rattle.word.specs.Word.{valueOf, bytesIn, arranged, firstWords, wordsOf, bytesOfWords}
 use Rattle.relr_table.specs.Words.{Where, nowhere, from, marked, fit, anchored, read}
 use Rattle.relr_table.specs.Table.{spaceOf, parse, decode}
 use Rattle.relr_table.specs.Place.{Place, Nowhere, Beyond, Stands, inside, unset, past}
@@ -76,20 +78,22 @@ module _ (k : Class) where
 
 -- ---- case K, followed by bitmaps
 -- empty ones are accepted
-accepts : decode Eight (bytesOfWords 8 (18446744073709551608 ∷ 1 ∷ 1 ∷ [])) ≡ accepted (18446744073709551608 ∷ [])
-unfolding inputLimit valueOf bytesIn firstWords wordsOf bytesOfWords marked fit anchored read after parse decode
-accepts = refl
+accepts : (o : ByteOrder) → decode (classIn Eight o) (bytesOfWords (classIn Eight o) (18446744073709551608 ∷ 1 ∷ 1 ∷ [])) ≡ accepted (18446744073709551608 ∷ [])
+unfolding inputLimit valueOf bytesIn arranged firstWords wordsOf bytesOfWords marked fit anchored read after parse decode
+accepts Little = refl
+accepts Big = refl
 
 -- and a bit behind them is outside the space, at its word's byte
-refuses : decode Eight (bytesOfWords 8 (18446744073709551608 ∷ 1 ∷ 3 ∷ [])) ≡ refused Space 16
-unfolding inputLimit valueOf bytesIn firstWords wordsOf bytesOfWords marked fit anchored read after parse decode
-refuses = refl
+refuses : (o : ByteOrder) → decode (classIn Eight o) (bytesOfWords (classIn Eight o) (18446744073709551608 ∷ 1 ∷ 3 ∷ [])) ≡ refused Space 16
+unfolding inputLimit valueOf bytesIn arranged firstWords wordsOf bytesOfWords marked fit anchored read after parse decode
+refuses Little = refl
+refuses Big = refl
 
 -- where a *where* that wraps would have it mark 504
-wraps : readOf Eight (3 ∷ []) 16 (from ((18446744073709551608 + 8 + 63 * 8) % 2 ^ 64)) ≡ accepted (504 ∷ [])
+wraps : (o : ByteOrder) → readOf (classIn Eight o) (3 ∷ []) 16 (from ((18446744073709551608 + 8 + 63 * 8) % 2 ^ 64)) ≡ accepted (504 ∷ [])
 unfolding marked fit anchored read after
-wraps = refl
+wraps o = refl
 
 -- behind m of them *where* is 2^64 and 504 for each, for as many as an input can hold and more
-pub case-k : (m : ℕ) (t : List ℕ) (i : ℕ) (w : Where) → readOf Eight (18446744073709551608 ∷ (empties m ++ t)) i w ≡ after (18446744073709551608 ∷ []) (readOf Eight t (i + 8 + m * 8) (from (2 ^ 64 + m * 504)))
-case-k m t i w = behind-empties Eight 18446744073709551608 refl (lit≤ tt) m t i w
+pub case-k : (o : ByteOrder) (m : ℕ) (t : List ℕ) (i : ℕ) (w : Where) → readOf (classIn Eight o) (18446744073709551608 ∷ (empties m ++ t)) i w ≡ after (18446744073709551608 ∷ []) (readOf (classIn Eight o) t (i + 8 + m * 8) (from (2 ^ 64 + m * 504)))
+case-k o m t i w = behind-empties (classIn Eight o) 18446744073709551608 refl (lit≤ tt) m t i w

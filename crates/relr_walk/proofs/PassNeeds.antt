@@ -103,7 +103,7 @@ module _ {k : Class} {s : List ℕ} {low high first : ℕ} {from q : Passed} (h�
   pub scan-end : Whole k s → {r : Found} → r ≡ surveyed (q .count) first → length s ≤ q .at → r ≡ foundOf (contained (between low high) (wordsRead k s))
   scan-end w e l = e ∙ leads-end (h .counted) (scan-small w) (h .lead) (standing-end (h .standing) l)
 
-  module _ {x : ℕ} {r : Opened} (l : q .at < length s) (e : x ≡ wordAt (bytesOf k) s (q .at)) (o : OpensAt k (q .place) x r) where
+  module _ {x : ℕ} {r : Opened} (l : q .at < length s) (e : x ≡ wordAt k s (q .at)) (o : OpensAt k (q .place) x r) where
     pub scan-refused : {why : Refusal} → r ≡ Refused why → found.Refused why (q .at) ≡ foundOf (contained (between low high) (wordsRead k s))
     scan-refused f = sym (found-refused (contained-refused (between low high) (word-refused (h .standing) l e o f)))
 
@@ -130,7 +130,7 @@ module _ {k : Class} {s : List ℕ} {low high first : ℕ} {from q : Passed} (h�
       scan-reach last g = omega (arith, word-marks (h .standing) l e o f .in-space)
 
 pub walk-begin : {k : Class} {s : List ℕ} {low high at count first x : ℕ} {p : Place} {r : Opened} {anchor set : ℕ} {next : Place} → Scanned k s low high at p count first
-    → at < length s → x ≡ wordAt (bytesOf k) s at → OpensAt k p x r → r ≡ Marks anchor set next → Walking k s low high at count first anchor set next set
+    → at < length s → x ≡ wordAt k s at → OpensAt k p x r → r ≡ Marks anchor set next → Walking k s low high at count first anchor set next set
 unfolding fit
 walk-begin {k} {anchor = anchor} {set = set} h l e o f =
     let w = word-marks (h .standing) l e o f in

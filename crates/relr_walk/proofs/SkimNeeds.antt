@@ -14,9 +14,8 @@ use borrow.Author.Tests.{lt-ltb, ltb-true, lt-leb, le-leb, leb-true}
 use lib.Dec.{leb, ltb, lit≤}
 use Rattle.answer.specs.Limits.{input-most}
 use Rattle.word.specs.declared.Class.{Class}
-use Rattle.word.specs.declared.Class.the-variants.{Four, Eight}
 use Rattle.word.specs.Class.{bytesOf, windowOf}
-use Rattle.word.specs.Class.Laws.{bytes-least, bytes-most}
+use Rattle.word.specs.Class.Laws.{bytes-least, bytes-most, by-bytes, class-is}
 use Rattle.word.specs.Word.{wordAt}
 use Rattle.relr_table.specs.Words.{Where, marked}
 use Rattle.relr_table.specs.Table.{spaceOf, All}
@@ -66,11 +65,8 @@ module _ (k : Class) (high width last : ℕ) (e : width ≡ windowOf k * bytesOf
   fence-high h u l = (omega arith, omega arith)
 
   pub fence-room : width ≤ last
-  fence-room = go k e g
-    where
-      go : (j : Class) → width ≡ windowOf j * bytesOf j → last + bytesOf j ≡ spaceOf j → width ≤ last
-      go Four e g = omega arith
-      go Eight e g = omega arith
+  fence-room =
+      by-bytes (λ (n : ℕ). width ≡ (8 * n - 1) * n → last + n ≡ 2 ^ (8 * n) → width ≤ last) (λ e g. omega arith) (λ e g. omega arith) k e g
 
 pub ruleset fences = (fence-none, fence-last, fence-high, fence-room, needs)
 
@@ -83,11 +79,7 @@ module _ (k : Class) (high last c : ℕ) (g : last + bytesOf k ≡ spaceOf k) (c
   top-high h x l = (omega arith, l)
 
   pub top-room : c ≤ last
-  top-room = go k ce g
-    where
-      go : (j : Class) → c ≡ bytesOf j → last + bytesOf j ≡ spaceOf j → c ≤ last
-      go Four e g = omega arith
-      go Eight e g = omega arith
+  top-room = by-bytes (λ (n : ℕ). c ≡ n → last + n ≡ 2 ^ (8 * n) → c ≤ last) (λ e g. omega arith) (λ e g. omega arith) k ce g
 
 pub ruleset tops = (top-last, top-high, top-room, needs)
 
@@ -107,8 +99,7 @@ window-all k anchor set top h =
 
 -- a window is a word or more
 window-some : (k : Class) → bytesOf k ≤ windowOf k * bytesOf k
-window-some Four = lit≤ tt
-window-some Eight = lit≤ tt
+window-some = by-bytes (λ (n : ℕ). n ≤ (8 * n - 1) * n) (lit≤ tt) (lit≤ tt)
 
 module _ {k : Class} {low high clear : ℕ} (f : Fence k high clear) where
   -- what is marked from an anchor between `low` and the fence
@@ -207,7 +198,7 @@ module _ {k : Class} {s : List ℕ} {low high at count first : ℕ} {p : Place} 
   scan-load l = standing-load (h .standing) l
 
   -- a step past a word that lies between the two ends
-  module _ {x n : ℕ} {next : Place} (l : at < length s) (e : x ≡ wordAt (bytesOf k) s at) (o : (w : Where) → Stands k w p → Cleared k low high w x n next) where
+  module _ {x n : ℕ} {next : Place} (l : at < length s) (e : x ≡ wordAt k s at) (o : (w : Where) → Stands k w p → Cleared k low high w x n next) where
     c : Cleared k low high (h .standing .w) x n next
     c = o (h .standing .w) (h .standing .stands)
 
@@ -247,11 +238,11 @@ module _ {k : Class} {s : List ℕ} {low high : ℕ} {from : Passed} (a : Skimma
   skim-end = record { ahead = g .ahead; on = g .on }
 
   -- a word that was passed
-  further : {c x n : ℕ} {next : Place} → at < length s → x ≡ wordAt (bytesOf k) s at → ((w : Where) → Stands k w p → Cleared k low high w x n next) → c ≡ bytesOf k
+  further : {c x n : ℕ} {next : Place} → at < length s → x ≡ wordAt k s at → ((w : Where) → Stands k w p → Cleared k low high w x n next) → c ≡ bytesOf k
       → Skimming k s low high (from .at) (from .place) (from .count) (at + c) next (count + n)
   further l e z ce = record { ahead = omega (arith, g .ahead); on = λ first h. rw ce (scan-step (g .on first h) l e z) }
 
-  module _ {top clear x : ℕ} {next : Place} {r : Stepped} (l : at < length s) (e : x ≡ wordAt (bytesOf k) s at) (t : Top k high top) (f : Fence k high clear)
+  module _ {top clear x : ℕ} {next : Place} {r : Stepped} (l : at < length s) (e : x ≡ wordAt k s at) (t : Top k high top) (f : Fence k high clear)
       (o : (high : ℕ) → Top k high top → Fence k high clear → Steps k low high p x r) where
     module _ (q : r ≡ One next) where
       one : (w : Where) → Stands k w p → Cleared k low high w x 1 next
@@ -290,4 +281,4 @@ module _ {k j : Class} (e : k ≡ j) (s : List ℕ) (low high : ℕ) {from : Pas
     pub skims-from : Skims j s low high from r → Skims k s low high from r
     skims-from h = subst (λ (i : Class). Skims i s low high from r) (sym e) h
 
-pub ruleset classes = (skimmable-to, skimmable-from, skims-to, skims-from, needs)
+pub ruleset classes = (class-is, skimmable-to, skimmable-from, skims-to, skims-from, needs)

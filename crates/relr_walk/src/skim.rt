@@ -7,7 +7,9 @@ ghost use Rattle.relr_table.specs.Table.{spaceOf};
 ghost use Rattle.relr_table.specs.Inner.{flagged, between};
 ghost use Rattle.relr_walk.specs.Inner.{Top, Fence, Steps, Skimmable, Skims, origin};
 use relr_table::place;
+use word::ByteOrder;
 use word::Class;
+use word::Size;
 
 // Whether x is `low` or more, and less than `high`.
 pub fn within(low: u64, high: u64, x: u64) -> bool
@@ -108,7 +110,7 @@ pub fn begin() -> Passed
 }
 
 // Passes the words from here on that lie between the two ends: a comparison with each end for a word, none for a bit.
-fn pass(k: Class, s: &[u8], low: u64, high: u64, from: Passed) -> Passed
+pub fn pass(k: Class, s: &[u8], low: u64, high: u64, from: Passed) -> Passed
     requires { ⌜ Skimmable k (now s) low high from ⌝ }
     ensures { λ r. ⌜ Skims k (now (s .entry)) low high from r ⌝ }
 {
@@ -139,20 +141,47 @@ fn pass(k: Class, s: &[u8], low: u64, high: u64, from: Passed) -> Passed
     Passed { at, place, count }
 }
 
-// The same by a flag for the class and for each class, so that the compiler makes a loop for each.
-fn pass_by(wide: bool, s: &[u8], low: u64, high: u64, from: Passed) -> Passed
-    requires { ⌜ Skimmable (flagged wide) (now s) low high from ⌝ }
-    ensures { λ r. ⌜ Skims (flagged wide) (now (s .entry)) low high from r ⌝ }
+// The same by flags for the class, and for each class, so that the compiler makes a loop for each.
+fn pass_by(wide: bool, big: bool, s: &[u8], low: u64, high: u64, from: Passed) -> Passed
+    requires { ⌜ Skimmable (flagged wide big) (now s) low high from ⌝ }
+    ensures { λ r. ⌜ Skims (flagged wide big) (now (s .entry)) low high from r ⌝ }
 {
-    pass(place::chosen(wide), s, low, high, from)
+    pass(place::chosen(wide, big), s, low, high, from)
 }
 
 pub fn pass_class(k: Class, s: &[u8], low: u64, high: u64, from: Passed) -> Passed
     requires { ⌜ Skimmable k (now s) low high from ⌝ }
     ensures { λ r. ⌜ Skims k (now (s .entry)) low high from r ⌝ }
 {
-    match k {
-        Class::Four => pass_by(false, s, low, high, from),
-        Class::Eight => pass_by(true, s, low, high, from),
+    let size = k.size;
+    let order = k.order;
+    match order {
+        ByteOrder::Little => match size {
+            Size::Four => pass_by(false, false, s, low, high, from),
+            Size::Eight => pass_by(true, false, s, low, high, from),
+        },
+        ByteOrder::Big => match size {
+            Size::Four => pass_by(false, true, s, low, high, from),
+            Size::Eight => pass_by(true, true, s, low, high, from),
+        },
+    }
+}
+
+// The same from the low end of the space on. (It is written out again so that the compiler knows that end.)
+pub fn pass_space(k: Class, s: &[u8], high: u64, from: Passed) -> Passed
+    requires { ⌜ Skimmable k (now s) 0 high from ⌝ }
+    ensures { λ r. ⌜ Skims k (now (s .entry)) 0 high from r ⌝ }
+{
+    let size = k.size;
+    let order = k.order;
+    match order {
+        ByteOrder::Little => match size {
+            Size::Four => pass_by(false, false, s, 0, high, from),
+            Size::Eight => pass_by(true, false, s, 0, high, from),
+        },
+        ByteOrder::Big => match size {
+            Size::Four => pass_by(false, true, s, 0, high, from),
+            Size::Eight => pass_by(true, true, s, 0, high, from),
+        },
     }
 }

@@ -14,9 +14,8 @@ use mir.Val.{Fits}
 use borrow.Author.Needs.{needs}
 use borrow.Author.Tests.{ne-eqb, le-ltb, lt-ltb, ltb-false, eqb-false}
 use Rattle.word.specs.declared.Class.{Class}
-use Rattle.word.specs.declared.Class.the-variants.{Four, Eight}
 use Rattle.word.specs.Class.{bytesOf, windowOf, InWords}
-use Rattle.word.specs.Class.Laws.{bytes-least, bytes-most}
+use Rattle.word.specs.Class.Laws.{bytes-least, bytes-most, by-bytes}
 use Rattle.relr_table.specs.Words.{Where, nowhere, from, falls, bit, word, write, table}
 use Rattle.relr_table.specs.Table.{spaceOf, checked}
 use Rattle.relr_table.specs.Place.{Place, Beyond, Stands, inside, unset, past}
@@ -105,8 +104,7 @@ unfolding falls
 falls-far c n v x h = rw (le-ltb ((x - v) / c) n h, and-false (eqb ((x - v) % c) 0)) (and-false (leb v x))
 
 even-whole : (k : Class) (d : ℕ) → d % bytesOf k ≡ 0 → d % 2 ≡ 0
-even-whole Four d h = omega arith
-even-whole Eight d h = omega arith
+even-whole k d = by-bytes (λ (n : ℕ). d % n ≡ 0 → d % 2 ≡ 0) (λ h. omega arith) (λ h. omega arith) k
 
 -- an offset of the space is below each number that is none
 off-low : (k : Class) (p : Place) (x : ℕ) → x + bytesOf k ≤ spaceOf k → x < p → LocatedAt k p x Off
@@ -180,8 +178,7 @@ near-from k v lo q (unset e f) h = let z : _≡_ {A = ℕ} 0 1 = cc in absurd (o
 near-from k v lo q (past u e g f) h = λ z. absurd (omega arith)
 
 stride-most : (k : Class) → windowOf k * bytesOf k ≤ 504
-stride-most Four = omega arith
-stride-most Eight = omega arith
+stride-most = by-bytes (λ (n : ℕ). (8 * n - 1) * n ≤ 504) (omega arith) (omega arith)
 
 -- ---- an offset joins the pending bitmap
 pub window-most : (k : Class) → windowOf k ≤ 63

@@ -27,7 +27,7 @@ use Rattle.answer.specs.declared.Found.{Found}
 use Rattle.answer.specs.Written.{Written}
 use Rattle.word.specs.declared.Class.{Class}
 use Rattle.word.specs.Class.{bytesOf, bitsOf, windowOf}
-use Rattle.word.specs.Class.Laws.{bytes-least, bytes-most}
+use Rattle.word.specs.Class.Laws.{bytes-least, bytes-most, class-is}
 use Rattle.word.specs.Word.Laws.{bytes-words-length, store-sets, bytes-words-none, bytes-words-one, bytes-words-append}
 use Rattle.word.specs.Word.{withWord, bytesOfWords}
 use Rattle.relr_table.specs.Words.{Where, nowhere, from, falls, bit, word, write, table, Legal}
@@ -204,7 +204,7 @@ module _ {k : Class} {l : List ℕ} {i least b words : ℕ} {p : Place} (h : Siz
       let e : checked (bytesOf k) (spaceOf k) 0 0 l (accepted (tableBytes k l)) ≡ accepted (tableBytes k l) =
       h .clean (accepted (tableBytes k l)) ∙ rw d (legal-checked (bytesOf k) (spaceOf k) i least [] _ tt) in
       let m : words + b ≡ length (table (bytesOf k) (windowOf k) l) = omega (arith, h .so, ap (λ (t : List ℕ). length (wordsFor k (h .w) b t)) d, ap length (words-end k (h .w) least b (h .holding .bits)), ends b (h .flag)) in
-      sym (found-accepted (record { list = tableBytes k l; is = e; long = bytes-words-length (bytesOf k) (table (bytesOf k) (windowOf k) l) ∙ rw (m, ce) }))
+      sym (found-accepted (record { list = tableBytes k l; is = e; long = bytes-words-length k (table (bytesOf k) (windowOf k) l) ∙ rw (m, ce) }))
     where
       ends : (t : ℕ) → t ≤ 1 → length (endOf t) ≡ t
       ends zero q = refl
@@ -267,11 +267,11 @@ packing-end {k} {l} {out} {i} {lo} {p} h il =
     h .so ∙ rw (drop-of-length-le l il) (ap (λ (t : List ℕ). out ++ t) (words-end k (h .w) lo (p .bits) (h .holding .bits)))
 
 -- ---- stores
-word-long : (k : Class) (w : ℕ) → length (bytesOfWords (bytesOf k) (w ∷ [])) ≡ bytesOf k
-word-long k w = bytes-words-length (bytesOf k) (w ∷ []) ∙ omega arith
+word-long : (k : Class) (w : ℕ) → length (bytesOfWords k (w ∷ [])) ≡ bytesOf k
+word-long k w = bytes-words-length k (w ∷ []) ∙ omega arith
 
-pub put-one : (k : Class) (old : List ℕ) (at w c : ℕ) {new : List ℕ} → c ≡ bytesOf k → new ≡ withWord (bytesOf k) old at w → Written old new at (at + c) (bytesOfWords (bytesOf k) (w ∷ []))
-put-one k old at w c ce e = record { list = e ∙ store-sets (bytesOf k) old at w ∙ rw bytes-words-one; place = omega (arith, word-long k w) }
+pub put-one : (k : Class) (old : List ℕ) (at w c : ℕ) {new : List ℕ} → c ≡ bytesOf k → new ≡ withWord k old at w → Written old new at (at + c) (bytesOfWords k (w ∷ []))
+put-one k old at w c ce e = record { list = e ∙ store-sets k old at w ∙ rw bytes-words-one; place = omega (arith, word-long k w) }
 
 pub put-fits : (k : Class) (old : List ℕ) (at c : ℕ) → c ≡ bytesOf k → Room at (bytesOf k) old → length old < 2 ^ 64 → Fits w64 (at + c)
 put-fits k old at c e h l = record { fits = omega arith }
@@ -284,8 +284,8 @@ pub record Putting (k : Class) (l old : List ℕ) (i : ℕ) (p : Pending) (at : 
   pub lo : ℕ
   pub packing : Packing k l out i lo p
   pub legal : Legal (bytesOf k) (spaceOf k) lo (drop i l)
-  pub place : at ≡ length (bytesOfWords (bytesOf k) out)
-  pub held : now ≡ bytesOfWords (bytesOf k) out ++ drop at old
+  pub place : at ≡ length (bytesOfWords k out)
+  pub held : now ≡ bytesOfWords k out ++ drop at old
   pub within : i ≤ length l
 
 pub putting-begin : (k : Class) (l old : List ℕ) → Encodable k l old → Putting k l old 0 (record { place = Nowhere; bits = 0 }) 0 old
@@ -302,24 +302,24 @@ putting-begin k l old h =
 
 module _ {k : Class} {l old : List ℕ} (f : Encodable k l old) {i at : ℕ} {p : Pending} {now : List ℕ} (g : Putting k l old i p at now) where
   -- what is written is a part of the table
-  part : (b : List ℕ) (rest : List ℕ) → table (bytesOf k) (windowOf k) l ≡ g .out ++ (b ++ rest) → at + length (bytesOfWords (bytesOf k) b) ≤ length old
+  part : (b : List ℕ) (rest : List ℕ) → table (bytesOf k) (windowOf k) l ≡ g .out ++ (b ++ rest) → at + length (bytesOfWords k b) ≤ length old
   part b rest e =
       omega (
         arith,
         f .room,
         g .place,
-        ap (λ (t : List ℕ). length (bytesOfWords (bytesOf k) t)) e,
-        ap length (bytes-words-append (bytesOf k) (g .out) (b ++ rest)),
-        ap length (bytes-words-append (bytesOf k) b rest),
-        length-append (bytesOfWords (bytesOf k) (g .out)) (bytesOfWords (bytesOf k) (b ++ rest)),
-        length-append (bytesOfWords (bytesOf k) b) (bytesOfWords (bytesOf k) rest),
+        ap (λ (t : List ℕ). length (bytesOfWords k t)) e,
+        ap length (bytes-words-append k (g .out) (b ++ rest)),
+        ap length (bytes-words-append k b rest),
+        length-append (bytesOfWords k (g .out)) (bytesOfWords k (b ++ rest)),
+        length-append (bytesOfWords k b) (bytesOfWords k rest),
       )
 
   at-most : at ≤ length old
   at-most = omega (arith, part [] _ (g .packing .so))
 
   pub putting-long : length now ≡ length old
-  putting-long = buffer-long (bytesOfWords (bytesOf k) (g .out)) old at (g .held) (sym (g .place)) at-most
+  putting-long = buffer-long (bytesOfWords k (g .out)) old at (g .held) (sym (g .place)) at-most
 
   pub putting-small : p .bits < 2 ^ 63
   putting-small = holding-small k (g .packing .holding)
@@ -327,11 +327,11 @@ module _ {k : Class} {l old : List ℕ} (f : Encodable k l old) {i at : ℕ} {p 
   pub putting-kept : (new : List ℕ) → length new ≡ length now → length new ≡ length old
   putting-kept new e = e ∙ putting-long
 
-  stored : (b : List ℕ) {n : ℕ} {new : List ℕ} → at + length (bytesOfWords (bytesOf k) b) ≤ length old → Written now new at n (bytesOfWords (bytesOf k) b)
-      → (n ≡ length (bytesOfWords (bytesOf k) (g .out ++ b))) × (new ≡ bytesOfWords (bytesOf k) (g .out ++ b) ++ drop n old)
+  stored : (b : List ℕ) {n : ℕ} {new : List ℕ} → at + length (bytesOfWords k b) ≤ length old → Written now new at n (bytesOfWords k b)
+      → (n ≡ length (bytesOfWords k (g .out ++ b))) × (new ≡ bytesOfWords k (g .out ++ b) ++ drop n old)
   stored b h u = (
-    omega (arith, u .place, g .place, ap length (bytes-words-append (bytesOf k) (g .out) b), length-append (bytesOfWords (bytesOf k) (g .out)) (bytesOfWords (bytesOf k) b)),
-    u .list ∙ buffer-more (bytesOfWords (bytesOf k) (g .out)) old at (bytesOfWords (bytesOf k) b) (g .held) (sym (g .place)) h ∙ rw (u .place, ← bytes-words-append (bytesOf k) (g .out) b),
+    omega (arith, u .place, g .place, ap length (bytes-words-append k (g .out) b), length-append (bytesOfWords k (g .out)) (bytesOfWords k b)),
+    u .list ∙ buffer-more (bytesOfWords k (g .out)) old at (bytesOfWords k b) (g .held) (sym (g .place)) h ∙ rw (u .place, ← bytes-words-append k (g .out) b),
   )
 
   module _ {n x : ℕ} (ne : n ≡ length l) (il : i < n) (xe : x ≡ getD l i 0) where
@@ -366,13 +366,13 @@ module _ {k : Class} {l old : List ℕ} (f : Encodable k l old) {i at : ℕ} {p 
 
       -- a word of the table comes next
       module _ {j lo : ℕ} {q : Pending} (y : ℕ) (pa : Packing k l (g .out ++ y ∷ []) j lo q) where
-        fits : at + length (bytesOfWords (bytesOf k) (y ∷ [])) ≤ length old
+        fits : at + length (bytesOfWords k (y ∷ [])) ≤ length old
         fits = part (y ∷ []) _ (pa .so ∙ append-assoc (g .out) (y ∷ []) _)
 
         room : Room at (bytesOf k) now
         room = omega (arith, fits, word-long k y, putting-long)
 
-        more : {m : ℕ} {new : List ℕ} → Legal (bytesOf k) (spaceOf k) lo (drop j l) → j ≤ length l → Written now new at m (bytesOfWords (bytesOf k) (y ∷ [])) → Putting k l old j q m new
+        more : {m : ℕ} {new : List ℕ} → Legal (bytesOf k) (spaceOf k) lo (drop j l) → j ≤ length l → Written now new at m (bytesOfWords k (y ∷ [])) → Putting k l old j q m new
         more le jl u =
             let (a, b) = stored (y ∷ []) fits u in
             record { out = g .out ++ y ∷ []; lo = lo; packing = pa; legal = le; place = a; held = b; within = jl }
@@ -384,7 +384,7 @@ module _ {k : Class} {l old : List ℕ} (f : Encodable k l old) {i at : ℕ} {p 
         pub putting-room-alone : Room at (bytesOf k) now
         putting-room-alone = room x alone
 
-        pub putting-alone : {m : ℕ} {new : List ℕ} → Written now new at m (bytesOfWords (bytesOf k) (x ∷ [])) → Putting k l old (i + 1) q m new
+        pub putting-alone : {m : ℕ} {new : List ℕ} → Written now new at m (bytesOfWords k (x ∷ [])) → Putting k l old (i + 1) q m new
         putting-alone u = more x alone (next-legal .3) (omega arith) u
 
       module _ {y : ℕ} {q : Pending} (re : r ≡ Flushed y q) where
@@ -394,7 +394,7 @@ module _ {k : Class} {l old : List ℕ} (f : Encodable k l old) {i at : ℕ} {p 
         pub putting-room-flushed : Room at (bytesOf k) now
         putting-room-flushed = room y flushed
 
-        pub putting-flush : {m : ℕ} {new : List ℕ} → Written now new at m (bytesOfWords (bytesOf k) (y ∷ [])) → Putting k l old i q m new
+        pub putting-flush : {m : ℕ} {new : List ℕ} → Written now new at m (bytesOfWords k (y ∷ [])) → Putting k l old i q m new
         putting-flush u = more y flushed (g .legal) (g .within) u
 
         pub putting-less : 2 * (n - i) + length (endOf (q .bits)) < 2 * (n - i) + length (endOf (p .bits))
@@ -418,18 +418,18 @@ pub ruleset puttings = (putting-begin, putting-long, putting-kept, putting-small
 
 -- ---- the bitmap that is pending at the end
 module _ {k : Class} {l old : List ℕ} (f : Encodable k l old) {r : Rest} {now : List ℕ} (g : Leaves k l old r now) where
-  bytes-all : length (tableBytes k l) ≡ r .at + length (bytesOfWords (bytesOf k) (endOf (r .bits)))
+  bytes-all : length (tableBytes k l) ≡ r .at + length (bytesOfWords k (endOf (r .bits)))
   bytes-all =
       omega (
         arith,
         g .place,
-        ap (λ (t : List ℕ). length (bytesOfWords (bytesOf k) t)) (g .so),
-        ap length (bytes-words-append (bytesOf k) (g .out) (endOf (r .bits))),
-        length-append (bytesOfWords (bytesOf k) (g .out)) (bytesOfWords (bytesOf k) (endOf (r .bits))),
+        ap (λ (t : List ℕ). length (bytesOfWords k t)) (g .so),
+        ap length (bytes-words-append k (g .out) (endOf (r .bits))),
+        length-append (bytesOfWords k (g .out)) (bytesOfWords k (endOf (r .bits))),
       )
 
   pub leaving-long : length now ≡ length old
-  leaving-long = buffer-long (bytesOfWords (bytesOf k) (g .out)) old (r .at) (g .held) (sym (g .place)) (omega (arith, f .room, bytes-all))
+  leaving-long = buffer-long (bytesOfWords k (g .out)) old (r .at) (g .held) (sym (g .place)) (omega (arith, f .room, bytes-all))
 
   pub leaving-double : Fits w64 (2 * r .bits)
   leaving-double = record { fits = omega (arith, g .small) }
@@ -447,16 +447,16 @@ module _ {k : Class} {l old : List ℕ} (f : Encodable k l old) {r : Rest} {now 
     last = rw (lt-ltb 0 (r .bits) pos)
 
     pub leaving-room : Room (r .at) (bytesOf k) now
-    leaving-room = omega (arith, f .room, bytes-all, ap (λ (t : List ℕ). length (bytesOfWords (bytesOf k) t)) last, word-long k (2 * r .bits + 1), leaving-long)
+    leaving-room = omega (arith, f .room, bytes-all, ap (λ (t : List ℕ). length (bytesOfWords k t)) last, word-long k (2 * r .bits + 1), leaving-long)
 
-    pub leaving-end : {m : ℕ} {new : List ℕ} → Written now new (r .at) m (bytesOfWords (bytesOf k) ((2 * r .bits + 1) ∷ [])) → new ≡ tableBytes k l ++ drop (length (tableBytes k l)) old
+    pub leaving-end : {m : ℕ} {new : List ℕ} → Written now new (r .at) m (bytesOfWords k ((2 * r .bits + 1) ∷ [])) → new ≡ tableBytes k l ++ drop (length (tableBytes k l)) old
     leaving-end u =
-        let e : bytesOfWords (bytesOf k) (g .out) ++ bytesOfWords (bytesOf k) ((2 * r .bits + 1) ∷ []) ≡ tableBytes k l =
-        sym (bytes-words-append (bytesOf k) (g .out) ((2 * r .bits + 1) ∷ [])) ∙ ap (bytesOfWords (bytesOf k)) (sym (g .so ∙ rw last)) in
-        let h : r .at + length (bytesOfWords (bytesOf k) ((2 * r .bits + 1) ∷ [])) ≡ length (tableBytes k l) =
+        let e : bytesOfWords k (g .out) ++ bytesOfWords k ((2 * r .bits + 1) ∷ []) ≡ tableBytes k l =
+        sym (bytes-words-append k (g .out) ((2 * r .bits + 1) ∷ [])) ∙ ap (bytesOfWords k) (sym (g .so ∙ rw last)) in
+        let h : r .at + length (bytesOfWords k ((2 * r .bits + 1) ∷ [])) ≡ length (tableBytes k l) =
         sym (bytes-all ∙ rw last) in
         u .list
-        ∙ buffer-more (bytesOfWords (bytesOf k) (g .out)) old (r .at) (bytesOfWords (bytesOf k) ((2 * r .bits + 1) ∷ [])) (g .held) (sym (g .place)) (omega (arith, f .room, h))
+        ∙ buffer-more (bytesOfWords k (g .out)) old (r .at) (bytesOfWords k ((2 * r .bits + 1) ∷ [])) (g .held) (sym (g .place)) (omega (arith, f .room, h))
         ∙ rw (e, h)
 
 pub ruleset leavings = (leaving-long, leaving-double, leaving-full, leaving-done, leaving-room, leaving-end, needs)
@@ -479,7 +479,7 @@ module _ {k j : Class} (e : k ≡ j) (l : List ℕ) where
     pub leaves-from : {r : Rest} {new : List ℕ} → Leaves j l old r new → Leaves k l old r new
     leaves-from {r} {new} h = subst (λ (i : Class). Leaves i l old r new) (sym e) h
 
-pub ruleset names = (sized-to, encodable-to, encodable-from, leaves-to, leaves-from, needs)
+pub ruleset names = (class-is, sized-to, encodable-to, encodable-from, leaves-to, leaves-from, needs)
 
 -- ---- a write for a class: f is what the first pass found
 pub measure-over : (k : Class) (l : List ℕ) → listLimit < length l → found.Refused Limit 0 ≡ foundOf (encode k l)
@@ -488,7 +488,7 @@ measure-over k l h = sym (found-refused (encode-over k l h))
 pub measure-in : {k j : Class} (e : k ≡ j) (l : List ℕ) {f : Found} → f ≡ foundOf (build j l) → length l ≤ listLimit → f ≡ foundOf (encode k l)
 measure-in {k} {j} e l {f} h s = subst (λ (i : Class). f ≡ foundOf (encode i l)) (sym e) (h ∙ ap foundOf (sym (encode-in j l s)))
 
-pub ruleset measures = (measure-over, measure-in, needs)
+pub ruleset measures = (class-is, measure-over, measure-in, needs)
 
 module _ (k : Class) (l old : List ℕ) {f : Found} (is : f ≡ foundOf (encode k l)) {n : ℕ} (e : f ≡ Count n) (fits : n ≤ length old) where
   pub write-encodable : Encodable k l old

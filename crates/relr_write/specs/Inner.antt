@@ -111,5 +111,5 @@ pub record Leaves (k : Class) (l old : List ℕ) (r : Rest) (new : List ℕ) : T
   pub out : List ℕ
   pub so : table (bytesOf k) (windowOf k) l ≡ out ++ endOf (r .bits)
   pub small : r .bits < 2 ^ 63
-  pub place : r .at ≡ length (bytesOfWords (bytesOf k) out)
-  pub held : new ≡ bytesOfWords (bytesOf k) out ++ drop (r .at) old
+  pub place : r .at ≡ length (bytesOfWords k out)
+  pub held : new ≡ bytesOfWords k out ++ drop (r .at) old

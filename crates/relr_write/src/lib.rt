@@ -5,10 +5,10 @@ ghost use Prim.Native.Nat.{_≤_};
 ghost use lib.ListN.{length, drop};
 ghost use Rattle.answer.specs.Outcome.{foundOf, listLimit};
 ghost use Rattle.answer.specs.Written.{Written};
-ghost use Rattle.word.specs.Class.{bytesOf};
+ghost use Rattle.word.specs.Class.{classIn, bytesOf};
 ghost use Rattle.word.specs.Word.{bytesOfWords};
 ghost use Rattle.relr_table.specs.Contract.{WritesIn};
-ghost use Rattle.relr_table.specs.Inner.{flagged};
+ghost use Rattle.relr_table.specs.Inner.{flaggedSize, flagged};
 ghost use Rattle.relr_table.specs.Table.{build, tableBytes, encode};
 ghost use Rattle.relr_write.specs.Inner.{faultOf, Encodable, Room, Leaves};
 use crate::packer::Packed;
@@ -17,7 +17,9 @@ use answer::Answer;
 use answer::Found;
 use answer::Refusal;
 use relr_table::place;
+use word::ByteOrder;
 use word::Class;
+use word::Size;
 
 mod packer;
 
@@ -86,12 +88,16 @@ fn size(k: Class, offsets: &[u64]) -> Found
     Found::Count((words + bits) * (k.bytes() as u64))
 }
 
-// The same by a flag for the class, so that the compiler makes a loop for each.
-fn size_by(wide: bool, offsets: &[u64]) -> Found
+// The same by a flag for the size, so that the compiler makes a loop for each.
+fn size_by(wide: bool, order: ByteOrder, offsets: &[u64]) -> Found
     requires { ⌜ length (now offsets) ≤ listLimit ⌝ }
-    ensures { λ r. ⌜ r ≡ foundOf (build (flagged wide) (now (offsets .entry))) ⌝ }
+    ensures { λ r. ⌜ r ≡ foundOf (build (classIn (flaggedSize wide) order) (now (offsets .entry))) ⌝ }
 {
-    size(place::chosen(wide), offsets)
+    let k = Class {
+        size: place::chosen_size(wide),
+        order,
+    };
+    size(k, offsets)
 }
 
 // How many bytes the table of any list takes, or the refusal.
@@ -101,16 +107,18 @@ fn measure(k: Class, offsets: &[u64]) -> Found
     if answer::LIST_LIMIT < offsets.len() {
         return Found::Refused(Refusal::Limit, 0);
     }
-    match k {
-        Class::Four => size_by(false, offsets),
-        Class::Eight => size_by(true, offsets),
+    let size = k.size;
+    let order = k.order;
+    match size {
+        Size::Four => size_by(false, order, offsets),
+        Size::Eight => size_by(true, order, offsets),
     }
 }
 
 // Stores a word at a place, and returns the place after it.
 fn put_word(k: Class, table: &mut [u8], at: usize, w: u64) -> usize
     requires { ⌜ Room at (bytesOf k) (now table) ⌝ }
-    ensures { λ r. ⌜ Written (now (table .entry)) (now (table .exit)) at r (bytesOfWords (bytesOf k) (w ∷ [])) ⌝ }
+    ensures { λ r. ⌜ Written (now (table .entry)) (now (table .exit)) at r (bytesOfWords k (w ∷ [])) ⌝ }
 {
     word::store(k, &mut *table, at, w);
     at + (k.bytes() as usize)
@@ -159,21 +167,29 @@ fn put(k: Class, offsets: &[u64], table: &mut [u8]) -> Rest
     }
 }
 
-// The same by a flag for the class and for each class.
-fn put_by(wide: bool, offsets: &[u64], table: &mut [u8]) -> Rest
-    requires { ⌜ Encodable (flagged wide) (now offsets) (now table) ⌝ }
-    ensures { λ r. ⌜ Leaves (flagged wide) (now (offsets .entry)) (now (table .entry)) r (now (table .exit)) ⌝ }
+// The same by flags for the class and for each class.
+fn put_by(wide: bool, big: bool, offsets: &[u64], table: &mut [u8]) -> Rest
+    requires { ⌜ Encodable (flagged wide big) (now offsets) (now table) ⌝ }
+    ensures { λ r. ⌜ Leaves (flagged wide big) (now (offsets .entry)) (now (table .entry)) r (now (table .exit)) ⌝ }
 {
-    put(place::chosen(wide), offsets, table)
+    put(place::chosen(wide, big), offsets, table)
 }
 
 fn put_all(k: Class, offsets: &[u64], table: &mut [u8]) -> Rest
     requires { ⌜ Encodable k (now offsets) (now table) ⌝ }
     ensures { λ r. ⌜ Leaves k (now (offsets .entry)) (now (table .entry)) r (now (table .exit)) ⌝ }
 {
-    match k {
-        Class::Four => put_by(false, offsets, table),
-        Class::Eight => put_by(true, offsets, table),
+    let size = k.size;
+    let order = k.order;
+    match order {
+        ByteOrder::Little => match size {
+            Size::Four => put_by(false, false, offsets, table),
+            Size::Eight => put_by(true, false, offsets, table),
+        },
+        ByteOrder::Big => match size {
+            Size::Four => put_by(false, true, offsets, table),
+            Size::Eight => put_by(true, true, offsets, table),
+        },
     }
 }
 

@@ -73,8 +73,9 @@ fn read(code: u8, settings: Settings, table: &[u8], lengths: Lengths) {
     let n_addends = input::capped(lengths.addends, ENTRIES);
     let addends: &mut [i64] = &mut addend_space[..n_addends];
     input::u32le();
+    let order = settings.order;
     let a = match code {
-        RELR_READ => relr::read(settings.class, table, offsets),
+        RELR_READ => relr::read(settings.class, order, table, offsets),
         APR1_READ => apr1::read(table, offsets),
         APA1_READ => apa1::read(table, offsets, addends),
         _ => relleb::read(settings.class, table, offsets, types, symbols, addends),
@@ -105,8 +106,9 @@ fn write(code: u8, settings: Settings, lengths: Lengths) {
     let mut space = [FILL8; BYTES];
     let m = input::capped(input::u32le(), BYTES);
     let table: &mut [u8] = &mut space[..m];
+    let order = settings.order;
     let a = match code {
-        RELR_WRITE => relr::write(settings.class, offsets, table),
+        RELR_WRITE => relr::write(settings.class, order, offsets, table),
         APR1_WRITE => apr1::write(offsets, table),
         APA1_WRITE => apa1::write(offsets, addends, table),
         _ => relleb::write(settings.class, offsets, types, symbols, addends, table),
@@ -119,6 +121,14 @@ fn apply(settings: Settings, table: &[u8]) {
     let m = input::capped(input::u32le(), BYTES);
     let image: &mut [u8] = &mut space[..m];
     input::bytes(image);
-    let a = relr::apply(settings.class, table, settings.base, settings.start, image);
+    let order = settings.order;
+    let a = relr::apply(
+        settings.class,
+        order,
+        table,
+        settings.base,
+        settings.start,
+        image,
+    );
     output::line(a, output::bytes(output::EMPTY, image));
 }

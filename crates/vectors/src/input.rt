@@ -1,11 +1,15 @@
 // The corpus on standard input. Its numbers are little-endian.
 ghost use Prim.Native.Nat.{_≤_, _<_};
 use libc::STDIN_FILENO;
+use word::ByteOrder;
+
+// The byte order that is high byte first.
+const BIG: u8 = 1;
 
 // What a case sets; `reference/FORMAT.md` has the values. What its call does not take is 0.
 pub struct Settings {
     pub class: u32,
-    pub order: u8,
+    pub order: ByteOrder,
     pub strict: u8,
     pub base: u64,
     pub start: u64,
@@ -50,7 +54,7 @@ pub fn u64le() -> u64 {
 
 pub fn case_settings() -> Settings {
     let class = u32le();
-    let order = byte();
+    let order = ByteOrder::of(byte() == BIG);
     let strict = byte();
     let base = u64le();
     let start = u64le();

@@ -1,6 +1,6 @@
 //! The calls, a row each.
 
-use Setting::{Base, Class, Start};
+use Setting::{Base, Class, Order, Start};
 use Shape::{Apply, Read, Write};
 
 // A call's code: its row.
@@ -74,9 +74,9 @@ const ALL: [bool; 4] = [true; 4];
 
 /// A further call is a further row, at the end.
 pub const CALLS: &[Call] = &[
-    Call::row("relr_read", Read, &[Class], OFFSETS, &[1, 2, 4, 6, 7, 9]),
-    Call::row("relr_write", Write, &[Class], OFFSETS, &[1, 2, 6, 7, 9, 10]),
-    Call::row("relr_apply", Apply, &[Class, Base, Start], NONE, &[1, 2, 4, 6, 7, 12, 15]),
+    Call::row("relr_read", Read, &[Class, Order], OFFSETS, &[1, 2, 4, 6, 7, 9]),
+    Call::row("relr_write", Write, &[Class, Order], OFFSETS, &[1, 2, 6, 7, 9, 10]),
+    Call::row("relr_apply", Apply, &[Class, Order, Base, Start], NONE, &[1, 2, 4, 6, 7, 12, 15]),
     Call::row("apr1_read", Read, &[], OFFSETS, &[2, 3, 4, 5, 7, 8, 9]),
     Call::row("apr1_write", Write, &[], OFFSETS, &[2, 6, 7, 9, 13]),
     Call::row("apa1_read", Read, &[], ADDENDS, &[2, 3, 4, 5, 8, 9, 11]),

@@ -6,8 +6,8 @@ use super::calls::{
     RELR_READ, RELR_WRITE, Setting, Shape,
 };
 use crate::{
-    Answer, apa1_read, apa1_write, apr1_read, apr1_write, relleb_read, relleb_write, relr_apply,
-    relr_read, relr_write,
+    Answer, ByteOrder, apa1_read, apa1_write, apr1_read, apr1_write, relleb_read, relleb_write,
+    relr_apply, relr_read, relr_write,
 };
 
 /// In a call's code: the input is all zeros, and the file has its length alone.
@@ -110,6 +110,11 @@ impl Case {
         Call::of(self.call)
     }
 
+    /// The order of the words of table and image.
+    pub fn order(&self) -> ByteOrder {
+        if self.big { ByteOrder::Big } else { ByteOrder::Little }
+    }
+
     pub fn is_write(&self) -> bool {
         self.call().shape == Shape::Write
     }
@@ -133,12 +138,12 @@ impl Case {
     /// buffers.
     pub fn run(&self) -> (Answer, Case) {
         self.check_settings();
-        let mut c = self.clone();
+        let (mut c, order) = (self.clone(), self.order());
         let (o, t, s, a) = (&mut c.offsets, &mut c.types, &mut c.symbols, &mut c.addends);
         let answer = match self.call {
-            RELR_READ => relr_read(c.class, &c.input, o),
-            RELR_WRITE => relr_write(c.class, o, &mut c.bytes),
-            RELR_APPLY => relr_apply(c.class, &c.input, c.base, c.start, &mut c.bytes),
+            RELR_READ => relr_read(c.class, order, &c.input, o),
+            RELR_WRITE => relr_write(c.class, order, o, &mut c.bytes),
+            RELR_APPLY => relr_apply(c.class, order, &c.input, c.base, c.start, &mut c.bytes),
             APR1_READ => apr1_read(&c.input, o),
             APR1_WRITE => apr1_write(o, &mut c.bytes),
             APA1_READ => apa1_read(&c.input, o, a),

@@ -9,6 +9,7 @@ use super::calls::{
 use super::case::Case;
 use super::rng::Rng;
 use super::tables::{join, relr_bytes};
+use super::twin;
 use crate::leb::Kind::{self, Signed, Unsigned};
 
 const SEED: u64 = 0x5245_4C52_2D32_3031;
@@ -62,7 +63,7 @@ pub fn sweeps() -> Vec<Named> {
     cases
 }
 
-/// Generated cases of every call, and a few long ones.
+/// Generated cases of every call, and a few long ones; then their twins.
 pub fn generated() -> Vec<Named> {
     let mut build = Build { rng: &mut Rng::new(SEED), edges: false };
     let mut cases = Vec::new();
@@ -83,6 +84,9 @@ pub fn generated() -> Vec<Named> {
         let name = format!("relr_apply start, generated {round}");
         cases.push(Named { name, case: build.apply_anywhere(class, size) });
     }
+    let twin = |named: &Named| twin::named(&named.name, &named.case);
+    let twins: Vec<Named> = cases.iter().filter_map(twin).collect();
+    cases.extend(twins);
     cases
 }
 

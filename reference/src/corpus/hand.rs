@@ -3,7 +3,7 @@
 
 use super::Named;
 use super::case::Case;
-use super::{hand_apa1, hand_apr1, hand_relleb, hand_relr};
+use super::{hand_apa1, hand_apr1, hand_order, hand_relleb, hand_relr, twin};
 
 pub struct Hand {
     pub name: String,
@@ -34,6 +34,12 @@ pub fn cases() -> Vec<Named> {
     all().into_iter().map(named).collect()
 }
 
+/// The twin of a case, which has the same answer.
+fn twin(hand: &Hand) -> Option<Hand> {
+    let Named { name, case } = twin::named(&hand.name, &hand.case)?;
+    Some(Hand { name, case, want: hand.want })
+}
+
 /// A case without its answer.
 pub fn named(hand: Hand) -> Named {
     Named { name: hand.name, case: hand.case }
@@ -45,5 +51,8 @@ pub fn all() -> Vec<Hand> {
     hands.extend(hand_apr1::all());
     hands.extend(hand_apa1::all());
     hands.extend(hand_relleb::all());
+    hands.extend(hand_order::all());
+    let twins: Vec<Hand> = hands.iter().filter_map(twin).collect();
+    hands.extend(twins);
     hands
 }

@@ -4,10 +4,11 @@
 use super::Named;
 use super::calls::{
     APA1_READ, APA1_WRITE, APR1_READ, APR1_WRITE, Call, RELLEB_READ, RELLEB_WRITE, RELR_APPLY,
-    RELR_READ, RELR_WRITE, Shape,
+    RELR_READ, RELR_WRITE, Setting, Shape,
 };
 use super::case::Case;
 use super::hand::{Hand, hand, named};
+use super::twin::BIG;
 use crate::{MOST_INPUT, MOST_LIST};
 
 const LIMIT: (u32, u64, u64) = (2, 0, 0);
@@ -39,20 +40,25 @@ pub fn cases() -> impl Iterator<Item = Named> {
     all().map(named)
 }
 
-/// Each call at the limit and one over it, which is refusal 2. A case is made
-/// when its turn comes: all at once would take gigabytes.
+/// Each call at the limit and one over it, which is refusal 2; then those that take
+/// the byte order as big-endian ones. A case is made when its turn comes: all at
+/// once would take gigabytes.
 pub fn all() -> impl Iterator<Item = Hand> {
-    AT_LIMIT.iter().flat_map(|&(call, class, want)| {
+    let ordered = AT_LIMIT.iter().filter(|(call, ..)| Call::of(*call).takes(Setting::Order));
+    let rows = AT_LIMIT.iter().map(|row| (row, false)).chain(ordered.map(|row| (row, true)));
+    rows.flat_map(|(&(call, class, want), big)| {
         let answers = [(0, want), (1, LIMIT)].into_iter();
-        answers.map(move |(over, want)| beyond(call, class, over, want))
+        answers.map(move |(over, want)| beyond(call, class, big, over, want))
     })
 }
 
-/// Zeros, so many over the call's limit.
-fn beyond(call: u8, class: u32, over: usize, want: (u32, u64, u64)) -> Hand {
+/// Zeros, so many over the call's limit. No byte of the input or of the image
+/// differs from the others, so that a twin has the same ones.
+fn beyond(call: u8, class: u32, big: bool, over: usize, want: (u32, u64, u64)) -> Hand {
     let write = Call::of(call).shape == Shape::Write;
     let length = over + if write { MOST_LIST } else { MOST_INPUT };
-    hand(&format!("{length} zeros"), zeros(call, class, length), want)
+    let name = format!("{length} zeros{}", if big { BIG } else { "" });
+    hand(&name, Case { big, ..zeros(call, class, length) }, want)
 }
 
 fn zeros(call: u8, class: u32, length: usize) -> Case {

@@ -9,12 +9,14 @@ pub mod generate;
 pub mod hand;
 pub mod hand_apa1;
 pub mod hand_apr1;
+pub mod hand_order;
 pub mod hand_relleb;
 pub mod hand_relr;
 pub mod long;
 pub mod pairs;
 pub mod rng;
 pub mod tables;
+pub mod twin;
 pub mod widest;
 
 use case::Case;
@@ -26,7 +28,8 @@ pub struct Named {
 }
 
 /// The cases of the corpus but the long ones, in the order of the file:
-/// hand-made, then swept, then generated.
+/// hand-made, then swept, then generated. Twins stand behind the hand-made and
+/// behind the generated ones.
 pub fn all() -> Vec<Named> {
     let mut cases = hand::cases();
     cases.extend(generate::sweeps());

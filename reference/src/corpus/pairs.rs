@@ -17,8 +17,9 @@ pub fn counts(cases: impl IntoIterator<Item = Named>) -> Vec<[usize; NUMBERS]> {
 /// its heading.
 pub fn markdown() -> String {
     let mut text = String::from("# The corpus\n\nCases per call and number of the answer. ");
-    text += "A dot stands where document 01 allows the call no such refusal. The reference ";
-    text += "prints this page; `reference/FORMAT.md` tells the files.\n";
+    text += "A dot stands where document 01 allows the call no such refusal. Each RELR case ";
+    text += "stands in both byte orders. The reference prints this page; ";
+    text += "`reference/FORMAT.md` tells the files.\n";
     for (heading, counts) in [
         ("Hand-made, swept and generated cases", counts(all())),
         ("Of these hand-made, each with its answer worked out", counts(hand::cases())),

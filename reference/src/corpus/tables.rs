@@ -2,15 +2,25 @@
 
 use crate::leb::{self, Kind};
 
-/// RELR words in the little-endian bytes of the class (eight for a bad
-/// class).
+/// The bytes of a RELR word: eight for a bad class.
+fn word_size(class: u32) -> usize {
+    if class == 4 { 4 } else { 8 }
+}
+
+/// RELR words in the little-endian bytes of the class.
 pub fn relr_bytes(class: u32, words: &[u64]) -> Vec<u8> {
-    let size = if class == 4 { 4 } else { 8 };
     let mut table = Vec::new();
     for word in words {
-        table.extend_from_slice(&word.to_le_bytes()[..size]);
+        table.extend_from_slice(&word.to_le_bytes()[..word_size(class)]);
     }
     table
+}
+
+/// The same words in the other byte order. Bytes behind the last whole word stay.
+pub fn turned(class: u32, bytes: &[u8]) -> Vec<u8> {
+    let mut turned = bytes.to_vec();
+    turned.chunks_exact_mut(word_size(class)).for_each(<[u8]>::reverse);
+    turned
 }
 
 /// A number in its shortest form.

@@ -1,6 +1,7 @@
 //! Whole tables that the library's writers made, damaged once.
 
 use crate::by_library;
+use crate::generate::in_some_order;
 use reference::corpus::build::Build;
 use reference::corpus::calls::{
     APA1_READ, APA1_WRITE, APR1_READ, APR1_WRITE, RELLEB_READ, RELLEB_WRITE, RELR_APPLY, RELR_READ,
@@ -8,6 +9,8 @@ use reference::corpus::calls::{
 };
 use reference::corpus::case::{Case, FILL};
 use reference::corpus::rng::Rng;
+use reference::corpus::tables::turned;
+use reference::corpus::twin::twin;
 use reloc::Refusal;
 
 /// One bit flipped, one byte changed, one byte taken out, or one put in.
@@ -49,14 +52,19 @@ pub fn whole(
     size: usize,
     damage: Option<Damage>,
 ) -> Option<Case> {
-    let Case { class, bytes: mut table, .. } = written(build, writer(call)?, class, size);
+    let Case { class, big, bytes: mut table, .. } = written(build, writer(call)?, class, size);
     if let Some(damage) = damage {
         damage.strike(build.rng, &mut table);
     }
-    Some(match call {
+    // The builders take little-endian words; the twin turns them back.
+    if big {
+        table = turned(class, &table);
+    }
+    let case = match call {
         RELR_APPLY => build.applied(class, &table),
         _ => build.lend(Case::read_into(call, class, &table, 0)),
-    })
+    };
+    if big { twin(&case) } else { Some(case) }
 }
 
 /// The writer of the tables that a call takes.
@@ -70,10 +78,12 @@ fn writer(call: u8) -> Option<u8> {
     }
 }
 
-/// A list that the library has accepted, with its table of at least one byte.
+/// A list that the library has accepted, with its table of at least one byte, in
+/// some byte order.
 fn written(build: &mut Build, writer: u8, class: u32, size: usize) -> Case {
     loop {
-        let mut list = build.list(writer, class, size);
+        let list = build.list(writer, class, size);
+        let mut list = in_some_order(build.rng, list);
         if let Err(Refusal { number: 9, need, .. }) = by_library(&list).result {
             list.bytes = vec![FILL; need as usize];
             return by_library(&list).after;

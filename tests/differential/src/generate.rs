@@ -1,11 +1,13 @@
 //! Cases from random numbers: the reference's builders with all their edges,
-//! any class, columns of unequal lengths, and the library's own tables.
+//! any class, both byte orders, columns of unequal lengths, and the library's own
+//! tables.
 
 use crate::damage::{DAMAGES, Damage, whole};
 use reference::corpus::build::Build;
 use reference::corpus::calls::{CALLS, Setting};
 use reference::corpus::case::Case;
 use reference::corpus::rng::Rng;
+use reference::corpus::twin::twin;
 
 /// A case, and the damage if its table is a damaged one of the library.
 pub struct Made {
@@ -38,7 +40,17 @@ pub fn case(rng: &mut Rng) -> Made {
     if rng.once_in(16) {
         uneven(rng, &mut case);
     }
-    Made { case, damage: None }
+    Made { case: in_some_order(rng, case), damage: None }
+}
+
+/// A little-endian case, or its twin; each half of the time.
+pub fn in_some_order(rng: &mut Rng, case: Case) -> Case {
+    if rng.once_in(2)
+        && let Some(twin) = twin(&case)
+    {
+        return twin;
+    }
+    case
 }
 
 /// Makes a column that the call has longer or shorter.

@@ -8,7 +8,7 @@ use reference::corpus::calls::{
     RELR_WRITE,
 };
 use reference::corpus::case::{Case, FILL};
-use reloc::Refusal;
+use reloc::{ByteOrder, Refusal};
 
 /// What a call answered and left behind.
 #[derive(PartialEq, Eq, Debug)]
@@ -41,10 +41,11 @@ pub fn by_library(case: &Case) -> Run {
     let mut bytes = Guarded::new(&case.bytes, lead, FILL);
     let (i, o, b) = (input.lend(), offsets.lend(), bytes.lend());
     let (t, s, a) = (types.lend(), symbols.lend(), addends.lend());
+    let order = if case.big { ByteOrder::Big } else { ByteOrder::Little };
     let result = match case.call {
-        RELR_READ => reloc::relr_read(case.class, i, o),
-        RELR_WRITE => reloc::relr_write(case.class, o, b),
-        RELR_APPLY => reloc::relr_apply(case.class, i, case.base, case.start, b),
+        RELR_READ => reloc::relr_read(case.class, order, i, o),
+        RELR_WRITE => reloc::relr_write(case.class, order, o, b),
+        RELR_APPLY => reloc::relr_apply(case.class, order, i, case.base, case.start, b),
         APR1_READ => reloc::apr1_read(i, o),
         APR1_WRITE => reloc::apr1_write(o, b),
         APA1_READ => reloc::apa1_read(i, o, a),

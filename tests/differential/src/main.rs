@@ -1,13 +1,13 @@
 //! Compares every call of the library with the reference on random cases for a
 //! bounded time: `differential [--seconds N] [--seed S]`. The cases follow from
-//! the seed, which is printed first. At its end it prints how many ended in each
-//! number, how many had a damaged table of the library's writers, and how many
-//! there were.
+//! the seed, which is printed first. At its end it prints how many of each call and
+//! byte order ended in each number, how many had a damaged table of the library's
+//! writers, and how many there were.
 
 use differential::damage::DAMAGES;
 use differential::generate::{self, Made};
 use differential::{by_library, by_reference};
-use reference::corpus::calls::{CALLS, NUMBERS};
+use reference::corpus::calls::{CALLS, NUMBERS, Setting};
 use reference::corpus::rng::Rng;
 use std::process::ExitCode;
 use std::time::{Duration, Instant, SystemTime, UNIX_EPOCH};
@@ -20,7 +20,7 @@ fn main() -> ExitCode {
     println!("seed {seed}");
     let end = Instant::now() + Duration::from_secs(seconds);
     let mut rng = Rng::new(seed);
-    let mut seen = vec![[0u64; NUMBERS]; CALLS.len()];
+    let mut seen = vec![[[0u64; NUMBERS]; 2]; CALLS.len()];
     let mut damaged = [0u64; DAMAGES.len()];
     let mut cases = 0u64;
     while Instant::now() < end {
@@ -35,7 +35,7 @@ fn main() -> ExitCode {
             return ExitCode::FAILURE;
         }
         let number = want.result.err().map_or(0, |refusal| refusal.number);
-        seen[case.call as usize][number as usize] += 1;
+        seen[case.call as usize][case.big as usize][number as usize] += 1;
         if let Some(damage) = damage {
             damaged[damage as usize] += 1;
         }
@@ -48,15 +48,22 @@ fn main() -> ExitCode {
     ExitCode::SUCCESS
 }
 
-/// How many cases of each call ended in each number.
-fn print_seen(seen: &[[u64; NUMBERS]]) {
-    for (call, row) in CALLS.iter().zip(seen) {
-        print!("{}:", call.name);
-        for (number, count) in row.iter().enumerate().filter(|(_, count)| **count > 0) {
-            print!(" {number}x{count}");
+/// How many cases of each call and byte order ended in each number.
+fn print_seen(seen: &[[[u64; NUMBERS]; 2]]) {
+    for (call, [little, big]) in CALLS.iter().zip(seen) {
+        print_row(call.name, little);
+        if call.takes(Setting::Order) {
+            print_row(&format!("{}, big-endian", call.name), big);
         }
-        println!();
     }
+}
+
+fn print_row(name: &str, row: &[u64; NUMBERS]) {
+    print!("{name}:");
+    for (number, count) in row.iter().enumerate().filter(|(_, count)| **count > 0) {
+        print!(" {number}x{count}");
+    }
+    println!();
 }
 
 /// Seconds and seed: 20 and the time, where not given.

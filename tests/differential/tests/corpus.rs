@@ -2,7 +2,7 @@
 //! edge.
 
 use differential::{by_library, by_reference, generate};
-use reference::corpus::calls::{APR1_READ, CALLS, NUMBERS, RELR_APPLY, RELR_READ};
+use reference::corpus::calls::{APR1_READ, CALLS, RELR_APPLY, RELR_READ, Setting};
 use reference::corpus::case::Case;
 use reference::corpus::rng::Rng;
 use reference::corpus::{all, long};
@@ -24,32 +24,37 @@ fn every_refusal_has_a_name() {
     }
 }
 
-/// All but 2, which needs the lengths of the long cases.
+/// All but 2, which needs the lengths of the long cases; in both byte orders where
+/// the call takes them.
 #[test]
 fn every_refusal_is_met() {
     let mut rng = Rng::new(1);
-    let mut seen = vec![[false; NUMBERS]; CALLS.len()];
+    let mut seen = HashSet::new();
     for _ in 0..20_000 {
         let case = generate::case(&mut rng).case;
-        seen[case.call as usize][case.run().0.number as usize] = true;
+        seen.insert((case.call().name, case.big, case.run().0.number));
     }
-    for (call, seen) in CALLS.iter().zip(seen) {
+    for call in CALLS {
         for number in call.refusals.iter().filter(|number| **number != 2) {
-            assert!(seen[*number as usize], "{} never met {number}", call.name);
+            for big in [false, call.takes(Setting::Order)] {
+                let met = seen.contains(&(call.name, big, *number));
+                assert!(met, "{} never met {number}, big-endian {big}", call.name);
+            }
         }
     }
 }
 
+/// Eleven edges; all but the one of APR1 in both byte orders.
 #[test]
 fn every_edge_is_met() {
     let mut rng = Rng::new(1);
     let mut met = HashSet::new();
     for _ in 0..20_000 {
         let case = generate::case(&mut rng).case;
-        met.extend(edge(&case));
-        met.extend(edge_of_a_start(&case));
+        met.extend(edge(&case).map(|edge| (edge, case.big)));
+        met.extend(edge_of_a_start(&case).map(|edge| (edge, case.big)));
     }
-    assert_eq!(met.len(), 11, "{met:?}");
+    assert_eq!(met.len(), 21, "{met:?}");
 }
 
 /// The edge that the start of a case's image meets, if any.

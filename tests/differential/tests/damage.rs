@@ -7,16 +7,21 @@ use reference::corpus::calls::{APA1_READ, APR1_READ, RELLEB_READ, RELR_APPLY, RE
 use reference::corpus::rng::Rng;
 use std::collections::HashSet;
 
-/// The calls that take tables, with their classes.
-const READERS: [(u8, u32); 8] = [
-    (RELR_READ, 4),
-    (RELR_READ, 8),
-    (RELR_APPLY, 4),
-    (RELR_APPLY, 8),
-    (APR1_READ, 0),
-    (APA1_READ, 0),
-    (RELLEB_READ, 4),
-    (RELLEB_READ, 8),
+/// The calls that take tables, with their classes, and whether words are
+/// big-endian.
+const READERS: [(u8, u32, bool); 12] = [
+    (RELR_READ, 4, false),
+    (RELR_READ, 4, true),
+    (RELR_READ, 8, false),
+    (RELR_READ, 8, true),
+    (RELR_APPLY, 4, false),
+    (RELR_APPLY, 4, true),
+    (RELR_APPLY, 8, false),
+    (RELR_APPLY, 8, true),
+    (APR1_READ, 0, false),
+    (APA1_READ, 0, false),
+    (RELLEB_READ, 4, false),
+    (RELLEB_READ, 8, false),
 ];
 
 fn without(bytes: &[u8], at: usize) -> Vec<u8> {
@@ -59,8 +64,8 @@ fn one_damage() {
     }
 }
 
-/// Every call that takes tables meets each damage in each class, and each
-/// damage leaves some tables accepted and some refused.
+/// Every call that takes tables meets each damage in each class and byte order,
+/// and each damage leaves some tables accepted and some refused.
 #[test]
 fn every_damage_is_met() {
     let mut rng = Rng::new(1);
@@ -69,7 +74,7 @@ fn every_damage_is_met() {
         let Made { case, damage: Some(damage) } = generate::case(&mut rng) else {
             continue;
         };
-        met.insert((damage as usize, case.call, case.class));
+        met.insert((damage as usize, (case.call, case.class, case.big)));
         // 9, 12 and 15 do not refuse the table.
         match by_reference(&case).result.map_err(|refusal| refusal.number) {
             Ok(_) | Err(9 | 12) => kept.insert(damage as usize),
@@ -77,7 +82,7 @@ fn every_damage_is_met() {
             Err(_) => refused.insert(damage as usize),
         };
     }
-    let readers = |damage| READERS.map(|(call, class)| (damage, call, class));
+    let readers = |damage| READERS.map(|reader| (damage, reader));
     assert_eq!(met, (0..DAMAGES.len()).flat_map(readers).collect());
     assert_eq!((kept.len(), refused.len()), (DAMAGES.len(), DAMAGES.len()));
 }

@@ -6,7 +6,8 @@ use reference::corpus::calls::{
     APA1_READ, APA1_WRITE, APR1_READ, APR1_WRITE, RELLEB_READ, RELLEB_WRITE, RELR_READ, RELR_WRITE,
 };
 use reference::corpus::case::{Case, FILL};
-use reference::corpus::tables::{number, padded, relr_bytes};
+use reference::corpus::tables::{number, padded, relr_bytes, turned};
+use reference::corpus::twin::table_twin;
 use reference::corpus::widest;
 use reference::leb::Kind::{self, Signed, Unsigned};
 use reloc::{INPUT_LIMIT, LIST_LIMIT, Refusal};
@@ -21,13 +22,25 @@ fn needs(need: usize) -> Result<usize, Refusal> {
     Err(Refusal { number: 9, place: 0, need: need as u64 })
 }
 
-/// The library answers so, and does as the reference does.
+/// What a message tells of a case.
+fn name(case: &Case) -> String {
+    format!("{} class {} big-endian {}", case.call().name, case.class, case.big)
+}
+
+/// The library answers so, and does as the reference does; also with the case's
+/// twin. An image here has equal bytes, the same in both orders.
 fn check(case: &Case, answer: Result<usize, Refusal>) {
+    check_one(case, answer);
+    if let Some(twin) = table_twin(case) {
+        check_one(&twin, answer);
+    }
+}
+
+fn check_one(case: &Case, answer: Result<usize, Refusal>) {
     let (want, got) = (by_reference(case), by_library(case));
-    let name = case.call().name;
-    assert_eq!(got.result, answer, "{name} class {}", case.class);
-    assert_eq!(want.result, answer, "{name} class {}, reference", case.class);
-    assert!(got == want, "{name} class {}: buffers differ", case.class);
+    assert_eq!(got.result, answer, "{}", name(case));
+    assert_eq!(want.result, answer, "{}, reference", name(case));
+    assert!(got == want, "{}: buffers differ", name(case));
 }
 
 /// A table of the longest length is read, with one byte more it is refused.
@@ -150,18 +163,31 @@ fn relr_where() {
     }
 }
 
+/// The library alone answers so, and leaves this.
+fn check_library(case: &Case, result: Result<usize, Refusal>, after: Case) {
+    let got = by_library(case);
+    assert_eq!(got.result, result, "{}", name(case));
+    assert!(got == Run { result, after, inside: true }, "{}", name(case));
+}
+
+/// Both classes in both byte orders: whether words are big-endian.
+const FORMS: [(u32, bool); 4] = [(4, false), (4, true), (8, false), (8, true)];
+
+/// Little-endian words in a byte order.
+fn ordered(class: u32, big: bool, words: Vec<u8>) -> Vec<u8> {
+    if big { turned(class, &words) } else { words }
+}
+
 /// The most offsets of a RELR table, all inside the space: in class 4 they take
 /// 31 parts of it in 32. The reference is not asked, since its list alone would
 /// take 8 GiB.
 #[test]
 fn relr_most_offsets() {
-    for class in [4, 8] {
+    for (class, big) in FORMS {
         let (words, window) = (INPUT_LIMIT / class as usize, 8 * class as usize - 1);
-        let case = Case::read_into(RELR_READ, class, &bitmaps(class, 0, u64::MAX), 4);
-        let got = by_library(&case);
-        let want = needs(1 + window * (words - 1));
-        assert_eq!(got.result, want, "class {class}");
-        assert!(got == Run { result: want, after: case, inside: true }, "class {class}");
+        let table = ordered(class, big, bitmaps(class, 0, u64::MAX));
+        let case = Case { big, ..Case::read_into(RELR_READ, class, &table, 4) };
+        check_library(&case, needs(1 + window * (words - 1)), case.clone());
     }
 }
 
@@ -170,20 +196,18 @@ fn relr_most_offsets() {
 #[test]
 fn relr_most_additions() {
     const BITMAPS: usize = 1_023;
-    for class in [4, 8] {
+    for (class, big) in FORMS {
         let (word, base) = (class as usize, 0xFEDC_BA98u64);
         // From address 0 over the whole image, again and again.
-        let turn = relr_bytes(class, &[vec![0], vec![u64::MAX; BITMAPS]].concat());
-        let turns = INPUT_LIMIT / turn.len();
+        let round = relr_bytes(class, &[vec![0], vec![u64::MAX; BITMAPS]].concat());
+        let rounds = INPUT_LIMIT / round.len();
+        let table = ordered(class, big, round.repeat(rounds));
         let places = 1 + BITMAPS * (8 * word - 1);
-        let case = Case::apply(class, &turn.repeat(turns), base, 0, &vec![0; places * word]);
+        let case = Case { big, ..Case::apply(class, &table, base, 0, &vec![0; places * word]) };
         assert_eq!(case.input.len(), INPUT_LIMIT);
-        let got = by_library(&case);
-        let want = Ok(turns * places);
-        assert_eq!(got.result, want, "class {class}");
-        let sum = (base * turns as u64).to_le_bytes();
-        let after = Case { bytes: sum[..word].repeat(places), ..case };
-        assert!(got == Run { result: want, after, inside: true }, "class {class}");
+        let sum = ordered(class, big, relr_bytes(class, &[base * rounds as u64]));
+        let after = Case { bytes: sum.repeat(places), ..case.clone() };
+        check_library(&case, Ok(rounds * places), after);
     }
 }
 

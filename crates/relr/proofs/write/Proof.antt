@@ -6,7 +6,7 @@ use Rattle.relr.proofs.write.Reads as reads
 use Rattle.relr.proofs.write.Lts as lts
 use Rattle.answer.proofs.refuse.Reads as refuse-reads
 use Rattle.relr_write.proofs.write_class.Reads as write-class-reads
-use Rattle.word.proofs.Class.named.Reads as named-reads
+use Rattle.word.proofs.Size.named.Reads as named-reads
 
 named-requires : tie.Need-named-requires
 named-requires c κs = search needs

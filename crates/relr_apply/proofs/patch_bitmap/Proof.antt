@@ -7,14 +7,10 @@ use Rattle.relr_apply.proofs.patch_marks.Reads as patch-marks-reads
 use Rattle.relr_apply.proofs.patch_run.Reads as patch-run-reads
 use Rattle.relr_apply.proofs.patch_window.Reads as patch-window-reads
 use Rattle.relr_table.proofs.place.crowded.Reads as crowded-reads
-use Rattle.relr_table.proofs.place.full_bits.Reads as full-bits-reads
 use Rattle.std.proofs.num.wrapping_sub_u64.Reads as wrapping-sub-u64-reads
 
 crowded-requires : tie.Need-crowded-requires
 crowded-requires c κs = search bitmaps
-
-full-bits-requires : tie.Need-full-bits-requires
-full-bits-requires c κs = search bitmaps
 
 patch-run-requires : tie.Need-patch-run-requires
 patch-run-requires c κs = search bitmaps
@@ -51,7 +47,6 @@ patch-bitmap-spec =
     tie.close
     (tie.spec
     crowded-requires
-    full-bits-requires
     patch-run-requires
     same-length
     returns

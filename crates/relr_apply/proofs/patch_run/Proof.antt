@@ -6,19 +6,12 @@ use Rattle.relr_apply.proofs.patch_run.Reads as reads
 use Rattle.relr_apply.proofs.patch_run.Lts as lts
 use Rattle.relr_apply.proofs.add_at.Reads as add-at-reads
 use Rattle.word.proofs.Class.bytes.Reads as bytes-reads
-use Rattle.word.proofs.Class.window.Reads as window-reads
 
 abbrev Inv-loop : tie.InvT-loop
-Inv-loop k image₀ base start anchor n j₀ image j = Running k image₀ base start anchor n image j
+Inv-loop k n image₀ base start anchor j₀ image j = Running k image₀ base start anchor n image j
 
 abbrev μ-loop : tie.MeasureT-loop
-μ-loop k image₀ base start anchor n j₀ image j = n - j
-
-window-requires : tie.Need-window-requires Inv-loop μ-loop
-window-requires c κs = search runnings
-
-cast-n : tie.Need-cast-n Inv-loop μ-loop
-cast-n c = search runnings
+μ-loop k n image₀ base start anchor j₀ image j = n - j
 
 loop-holds : tie.Need-loop-holds Inv-loop μ-loop
 loop-holds c = search runnings
@@ -62,8 +55,6 @@ patch-run-spec =
     (tie.spec
     Inv-loop
     μ-loop
-    window-requires
-    cast-n
     loop-holds
     bytes-requires
     cast-x

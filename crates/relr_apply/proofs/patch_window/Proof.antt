@@ -5,33 +5,22 @@ use Rattle.relr_apply.proofs.patch_window.Tie as tie
 use Rattle.relr_apply.proofs.patch_window.Reads as reads
 use Rattle.relr_apply.proofs.patch_window.Lts as lts
 use Rattle.relr_apply.proofs.add_times.Reads as add-times-reads
-use Rattle.relr_table.proofs.place.step.Reads as step-reads
 use Rattle.std.proofs.num.wrapping_sub_u64.Reads as wrapping-sub-u64-reads
-use Rattle.word.proofs.Class.window.Reads as window-reads
 
 abbrev Inv-loop : tie.InvT-loop
-Inv-loop k image₀ base start anchor set at window bits₀ x₀ j₀ image bits x j = Sweeping k image₀ base start anchor set at image bits x j
+Inv-loop k window step image₀ base start anchor set at bits₀ x₀ j₀ image bits x j = Sweeping k image₀ base start anchor set at image bits x j
 
 abbrev μ-loop : tie.MeasureT-loop
-μ-loop k image₀ base start anchor set at window bits₀ x₀ j₀ image bits x j = window - j
+μ-loop k window step image₀ base start anchor set at bits₀ x₀ j₀ image bits x j = window - j
 
 wrapping-sub-u64-requires : tie.Need-wrapping-sub-u64-requires Inv-loop μ-loop
 wrapping-sub-u64-requires c κs = search sweepings
-
-window-requires : tie.Need-window-requires Inv-loop μ-loop
-window-requires c κs = search sweepings
-
-cast-window : tie.Need-cast-window Inv-loop μ-loop
-cast-window c = search sweepings
 
 loop-holds : tie.Need-loop-holds Inv-loop μ-loop
 loop-holds c = search sweepings
 
 add-times-requires : tie.Need-add-times-requires Inv-loop μ-loop
 add-times-requires c κs = search sweepings
-
-step-requires : tie.Need-step-requires Inv-loop μ-loop
-step-requires c κs = search sweepings
 
 add-x : tie.Need-add-x Inv-loop μ-loop
 add-x c = search sweepings
@@ -58,11 +47,8 @@ patch-window-spec =
     Inv-loop
     μ-loop
     wrapping-sub-u64-requires
-    window-requires
-    cast-window
     loop-holds
     add-times-requires
-    step-requires
     add-x
     add-j
     loop-less

@@ -6,7 +6,7 @@ use Rattle.relr_walk.proofs.count.Reads as reads
 use Rattle.relr_walk.proofs.count.Lts as lts
 use Rattle.relr_walk.proofs.scan.Reads as scan-reads
 use Rattle.relr_walk.proofs.skim.begin.Reads as begin-reads
-use Rattle.relr_walk.proofs.skim.pass_class.Reads as pass-class-reads
+use Rattle.relr_walk.proofs.skim.pass_space.Reads as pass-space-reads
 use Rattle.word.proofs.Class.last.Reads as last-reads
 use Rattle.word.proofs.Class.rest.Reads as rest-reads
 
@@ -30,9 +30,9 @@ returns-2 c = search counts
 begin-requires : tie.Need-begin-requires
 begin-requires c κs = search counts
 
-pass-class-requires : tie.Need-pass-class-requires
+pass-space-requires : tie.Need-pass-space-requires
 unfolding inputLimit
-pass-class-requires c κs = search counts
+pass-space-requires c κs = search counts
 
 returns-3 : tie.Need-returns-3
 unfolding inputLimit
@@ -40,7 +40,7 @@ returns-3 c = search counts
 
 scan-requires : tie.Need-scan-requires
 unfolding inputLimit
-scan-requires c κs = find-rest _ _ _ _ (c .before .before .before .before .before .rest .ensures) (c .before .before .before .before .if2 .left) (c .before .before .before .before .before .before .if1 .left) (c .before .before .before .begin .ensures) (c .before .before .pass-class .ensures)
+scan-requires c κs = find-rest _ _ _ _ (c .before .before .before .before .before .rest .ensures) (c .before .before .before .before .if2 .left) (c .before .before .before .before .before .before .if1 .left) (c .before .before .before .begin .ensures) (c .before .before .pass-space .ensures)
 
 returns-4 : tie.Need-returns-4
 unfolding inputLimit
@@ -56,7 +56,7 @@ count-spec =
     rest-requires
     returns-2
     begin-requires
-    pass-class-requires
+    pass-space-requires
     returns-3
     scan-requires
     returns-4)

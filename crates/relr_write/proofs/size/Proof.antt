@@ -52,7 +52,7 @@ loop-less : tie.Need-loop-less Inv-loop μ-loop
 loop-less c = search sizings
 
 loop-again : tie.Need-loop-again Inv-loop μ-loop
-loop-again c = search sizings
+loop-again c = (search (c .before .before .before .before .before .before .before .before .loop .inv .0, c .before .before .before .before .before .faulty .ensures, c .before .before .pack .ensures, sizings), search sizings)
 
 enum-known-packed : tie.Need-enum-known-packed Inv-loop μ-loop
 enum-known-packed c = search sizings

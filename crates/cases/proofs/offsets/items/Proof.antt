@@ -1,18 +1,17 @@
 use borrow.Author.Needs.{needs}
 use lib.ListN.{length}
 use Prim.Native.Nat.{_-_, _≤_}
-use Rattle.cases.proofs.offsets.column.Statement.{statement}
-use Rattle.cases.proofs.offsets.column.Tie as tie
-use Rattle.cases.proofs.offsets.column.Reads as reads
-use Rattle.cases.proofs.offsets.column.Lts as lts
+use Rattle.cases.proofs.offsets.items.Statement.{statement}
+use Rattle.cases.proofs.offsets.items.Tie as tie
+use Rattle.cases.proofs.offsets.items.Reads as reads
+use Rattle.cases.proofs.offsets.items.Lts as lts
 use Rattle.cases.proofs.text.item.Reads as item-reads
-use Rattle.cases.proofs.text.put.Reads as put-reads
 
 abbrev Inv-loop : tie.InvT-loop
-Inv-loop values i₀ t3 i = i ≤ length values
+Inv-loop values i₀ i = i ≤ length values
 
 abbrev μ-loop : tie.MeasureT-loop
-μ-loop values i₀ t3 i = length values - i
+μ-loop values i₀ i = length values - i
 
 loop-holds : tie.Need-loop-holds Inv-loop μ-loop
 loop-holds c = search needs
@@ -35,17 +34,11 @@ loop-less c = search needs
 loop-again : tie.Need-loop-again Inv-loop μ-loop
 loop-again c = search needs
 
-slice-aggregate-put : tie.Need-slice-aggregate-put Inv-loop μ-loop
-slice-aggregate-put c = search needs
-
-put-requires : tie.Need-put-requires Inv-loop μ-loop
-put-requires c κs = search needs
-
 returns : tie.Need-returns Inv-loop μ-loop
 returns c = search needs
 
-pub column-spec : {M : Type 1} → statement M
-column-spec =
+pub items-spec : {M : Type 1} → statement M
+items-spec =
     tie.close
     (tie.spec
     Inv-loop
@@ -57,6 +50,4 @@ column-spec =
     add-i
     loop-less
     loop-again
-    slice-aggregate-put
-    put-requires
     returns)
