@@ -155,14 +155,14 @@ pub fn pass_class(k: Class, s: &[u8], low: u64, high: u64, from: Passed) -> Pass
 {
     let size = k.size;
     let order = k.order;
-    match order {
-        ByteOrder::Little => match size {
-            Size::Four => pass_by(false, false, s, low, high, from),
-            Size::Eight => pass_by(true, false, s, low, high, from),
+    match size {
+        Size::Four => match order {
+            ByteOrder::Little => pass_by(false, false, s, low, high, from),
+            ByteOrder::Big => pass_by(false, true, s, low, high, from),
         },
-        ByteOrder::Big => match size {
-            Size::Four => pass_by(false, true, s, low, high, from),
-            Size::Eight => pass_by(true, true, s, low, high, from),
+        Size::Eight => match order {
+            ByteOrder::Little => pass_by(true, false, s, low, high, from),
+            ByteOrder::Big => pass_by(true, true, s, low, high, from),
         },
     }
 }
@@ -174,14 +174,14 @@ pub fn pass_space(k: Class, s: &[u8], high: u64, from: Passed) -> Passed
 {
     let size = k.size;
     let order = k.order;
-    match order {
-        ByteOrder::Little => match size {
-            Size::Four => pass_by(false, false, s, 0, high, from),
-            Size::Eight => pass_by(true, false, s, 0, high, from),
+    match size {
+        Size::Four => match order {
+            ByteOrder::Little => pass_by(false, false, s, 0, high, from),
+            ByteOrder::Big => pass_by(false, true, s, 0, high, from),
         },
-        ByteOrder::Big => match size {
-            Size::Four => pass_by(false, true, s, 0, high, from),
-            Size::Eight => pass_by(true, true, s, 0, high, from),
+        Size::Eight => match order {
+            ByteOrder::Little => pass_by(true, false, s, 0, high, from),
+            ByteOrder::Big => pass_by(true, true, s, 0, high, from),
         },
     }
 }
