@@ -27,7 +27,7 @@ use Rattle.word.specs.declared.ByteOrder.{ByteOrder}
 use Rattle.word.specs.declared.Class.{Class}
 use Rattle.word.specs.declared.Named.{Named}
 use Rattle.word.specs.declared.Named.the-variants.{Is, Unknown}
-use Rattle.word.specs.Class.{sizeOf, widthOf, classIn, bytesOf, windowOf, classOf, inClass}
+use Rattle.word.specs.Class.{widthOf, classIn, bytesOf, windowOf, classOf, inClass}
 use Rattle.word.specs.Class.Laws.{size-most, bytes-least, by-bytes}
 use Rattle.relr_table.specs.Words.{Where}
 use Rattle.relr_table.specs.Table as relr

@@ -31,7 +31,7 @@ use Rattle.word.specs.Word.{wordAt, withWord}
 use Rattle.relr_table.specs.Table.{spaceOf, decode, inside, Inside, All, contained, targets, indexes, added, patched, above}
 use Rattle.relr_table.specs.Contract.{changed, AppliesIn}
 use Rattle.relr_table.specs.Inner.{marksOf, full, between}
-use Rattle.relr_apply.specs.Inner.{Addable, Added, Patchable, Runs, Spacious, Windows, Paced, Sized, Targeted, Aimed, Patched, End}
+use Rattle.relr_apply.specs.Inner.{Addable, Added, Patchable, Runs, Spacious, Windows, Sized, Targeted, Aimed, Patched, End}
 use Rattle.relr_table.proofs.Marked.{all-left, all-right}
 use Rattle.relr_table.proofs.PlaceNeeds.{one-mark}
 use Rattle.relr_table.proofs.Passed.{step-fits, step-less, space-most}
