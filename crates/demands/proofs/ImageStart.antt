@@ -107,7 +107,7 @@ module _ (k : Class) (start size : ℕ) where
 
 -- ---- the contract for a class
 module _ (class : ℕ) (order : ByteOrder) (s : List ℕ) (base start : ℕ) (old : List ℕ) {z : Size} (n : classOf class ≡ Is z) where
-  applying-is : applying class order s base start (length old) ≡ targets (classIn z order) s base start (length old)
+  pub applying-is : applying class order s base start (length old) ≡ targets (classIn z order) s base start (length old)
   unfolding applying
   applying-is = rw n
 

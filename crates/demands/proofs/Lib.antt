@@ -3,3 +3,4 @@ pub mod GuiltyByte
 pub mod BiggerModules
 pub mod ImageStart
 pub mod ByteOrders
+pub mod Moving

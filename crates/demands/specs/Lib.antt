@@ -3,3 +3,4 @@ pub mod Statements
 pub mod FromZero
 pub mod LowFirst
 pub mod Reversed
+pub mod Moving
