@@ -1,9 +1,10 @@
 /* A loader: adds the load base to the words of an image that a RELR table
- * names, keeps the list of them, and shows that a refused table leaves the image
- * as it was. The module is linked at 0x1000, so the table's offsets count from
- * there, and the image's first byte is the one at 0x1000. It has no heap: what a
- * call needs is compared with what there is. At last it patches the image of a
- * controller that stores words high byte first. */
+ * names, moves the loaded module to another base, keeps the list of the words, and
+ * shows that a refused table leaves the image as it was. The module is linked at
+ * 0x1000, so the table's offsets count from there, and the image's first byte is
+ * the one at 0x1000. It has no heap: what a call needs is compared with what there
+ * is. At last it patches the image of a controller that stores words high byte
+ * first. */
 #include "reloc.h"
 
 #include <inttypes.h>
@@ -25,6 +26,9 @@ static uint8_t image[WORDS * CLASS] = {
 static const uint8_t table[] = {0, 0x10, 0, 0, 0, 0, 0, 0, 0x0D, 0, 0, 0, 0, 0, 0, 0};
 
 static const uint64_t base = 0x10000;
+
+/* The base that the module is moved to, below the first. */
+static const uint64_t lower = 0x4000;
 
 /* The address that the image's first byte is linked at. */
 static const uint64_t start = 0x1000;
@@ -63,6 +67,28 @@ static int refused(const char *what, struct reloc_answer answer)
     printf("%s: %" PRIu32 " %s, place %" PRIu64 "\n", what, answer.number,
            reloc_name(answer.number), answer.place);
     return 1;
+}
+
+/* Moves the loaded module to another base, by applying the difference of bases:
+ * the image is then the one that applying the table at the new base gives of the
+ * image from before. It holds because any two words of the list lie at least a word
+ * apart. The difference wraps at 64 bits, so the new base may be the lower one. In
+ * class 4 the caller reduces it to 32 bits, (uint32_t)(to - from): a larger base is
+ * refused with 15. */
+static int move_module(uint64_t from, uint64_t to)
+{
+    struct reloc_answer answer =
+        reloc_relr_apply(CLASS, false, table, sizeof table, to - from, start, image, sizeof image);
+    if (answer.number != RELOC_OK) {
+        return refused("the table, to move", answer);
+    }
+    print("moved ");
+    if (word(0x1000) != 0x1234 + to || word(0x1008) != 0x5555555555555555 ||
+        word(0x1010) != to - 0x8000 || word(0x1018) != 0x5678 + to) {
+        printf("moved otherwise than the table says\n");
+        return 1;
+    }
+    return 0;
 }
 
 /* Keeps the table's list where there is room for it. */
@@ -161,7 +187,7 @@ int main(void)
         return 1;
     }
     printf("%" PRIu64 " words patched\n", answer.count);
-    if (keep() != 0) {
+    if (move_module(base, lower) != 0 || keep() != 0) {
         return 1;
     }
     return patch_big();

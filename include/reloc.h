@@ -99,8 +99,8 @@ extern "C" {
  *
  *     if (reloc_version() != RELOC_VERSION) the header is not the library's
  */
-#define RELOC_VERSION 6000u
-#define RELOC_VERSION_TEXT "0.6.0"
+#define RELOC_VERSION 6001u
+#define RELOC_VERSION_TEXT "0.6.1"
 
 /* The version of the library, as RELOC_VERSION. */
 RELOC_NODISCARD

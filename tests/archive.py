@@ -30,14 +30,15 @@ def sections(library):
 
 
 def taken(line):
-    """The bytes of stack that an instruction takes. A large number added is a small one subtracted, and the other way round."""
+    """The bytes of stack that an instruction takes. A large number added is a small one subtracted, and the other way round. An address
+    of the stack that is handed on, by `lea` or by `mov` from %rsp, takes none; nothing else may set %rsp."""
     if re.search(r"\bpush\w*\s", line):
         return WORD
     if found := re.search(r"\b(sub|add)\s+\$0x([0-9a-f]+),%rsp$", line):
         number = int(found[2], 16)
         number -= 1 << 64 if number >> 63 else 0
         return max(0, number if found[1] == "sub" else -number)
-    if re.search(r",%[er]?sp$|\bmov\w*\s+%rsp,", line) and not re.search(r"\bcmp|\btest", line):
+    if re.search(r",%[er]?sp$", line) and not re.search(r"\bcmp|\btest", line):
         fail(f"not a frame that can be bounded: {line.strip()}")
     return 0
 

@@ -6,6 +6,8 @@ use std::num::NonZero;
 pub trait Bits {
     /// Whether it goes by trailing zeros.
     const ZEROS: bool;
+    /// Whether a bitmap with few clear bits is gone through word by word, without a branch.
+    const WHOLE: bool = false;
 
     /// The places of the one bits, lowest first.
     fn ones(set: u64) -> impl Iterator<Item = u64>;
@@ -34,5 +36,17 @@ impl Bits for TrailingZeros {
             set &= set - 1;
             Some(k)
         })
+    }
+}
+
+/// The same, but for bitmaps with few clear bits.
+pub struct BestSteps;
+
+impl Bits for BestSteps {
+    const ZEROS: bool = true;
+    const WHOLE: bool = true;
+
+    fn ones(set: u64) -> impl Iterator<Item = u64> {
+        TrailingZeros::ones(set)
     }
 }

@@ -1,6 +1,6 @@
 //! The call of a case, made by each program on the case's own buffers.
 
-use crate::bits::{BitByBit, Bits, TrailingZeros};
+use crate::bits::{BestSteps, BitByBit, Bits, TrailingZeros};
 use crate::{baseline, plain};
 use reference::corpus::calls::{
     APA1_READ, APA1_WRITE, APR1_READ, APR1_WRITE, RELLEB_READ, RELLEB_WRITE, RELR_APPLY, RELR_READ,
@@ -13,11 +13,18 @@ use reloc::Refusal;
 pub type Program = fn(&mut Case) -> Result<usize, Refusal>;
 
 /// The ways through bitmaps, by name.
-pub const WAYS: [&str; 2] = ["bit by bit", "by trailing zeros"];
+pub const WAYS: [&str; 3] = ["bit by bit", "by trailing zeros", "by the best steps"];
 
 /// The library, then Rust and C in each way.
-const PROGRAMS: [Program; 5] =
-    [library, rust::<BitByBit>, c::<BitByBit>, rust::<TrailingZeros>, c::<TrailingZeros>];
+const PROGRAMS: [Program; 7] = [
+    library,
+    rust::<BitByBit>,
+    c::<BitByBit>,
+    rust::<TrailingZeros>,
+    c::<TrailingZeros>,
+    rust::<BestSteps>,
+    c::<BestSteps>,
+];
 
 /// The programs that make a call: only reading and applying RELR go through bitmaps.
 pub(crate) fn programs(call: u8) -> &'static [Program] {

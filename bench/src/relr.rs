@@ -69,7 +69,7 @@ fn apply<W: Word, B: Bits>(table: &[u8], base: u64, start: u64, image: &mut [u8]
             && set != 1
             && let Some(window) = W::window(image, first)
         {
-            B::ones(set).for_each(|k| add(window[k as usize].as_mut()));
+            patch::<W, B>(window, base, set);
         } else {
             B::ones(set).for_each(|k| {
                 let at = first + k as usize * W::BYTES;
@@ -78,6 +78,21 @@ fn apply<W: Word, B: Bits>(table: &[u8], base: u64, start: u64, image: &mut [u8]
         }
     });
     Ok(found.count)
+}
+
+/// Adds the base to the words of a window that are marked.
+fn patch<W: Word, B: Bits>(window: &mut [W::Bytes; 64], base: u64, set: u64) {
+    let add = |word: &mut W::Bytes, addend: u64| {
+        W::store(W::load(word.as_mut()).wrapping_add(addend), word.as_mut())
+    };
+    let words = &mut window[..W::WINDOW as usize];
+    if B::WHOLE && set == W::TOP >> 1 {
+        words.iter_mut().for_each(|word| add(word, base));
+    } else if B::WHOLE && set.count_ones() + 24 >= W::WINDOW as u32 {
+        words.iter_mut().enumerate().for_each(|(k, word)| add(word, (set >> k & 1).wrapping_neg() & base));
+    } else {
+        B::ones(set).for_each(|k| add(&mut words[k as usize], base));
+    }
 }
 
 /// The first pass over a table: looks at every word, and answers what it found.

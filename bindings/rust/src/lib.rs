@@ -56,7 +56,7 @@ impl ByteOrder {
 }
 
 /// The version of this wrapper: major × 1,000,000 + minor × 1,000 + patch.
-pub const VERSION: u32 = 6_000;
+pub const VERSION: u32 = 6_001;
 
 /// The longest table that is read or applied, in bytes.
 pub const INPUT_LIMIT: usize = 134_217_728;

@@ -30,15 +30,17 @@ use Rattle.word.specs.Class.Laws.{bytes-least, by-bytes, class-is}
 use Rattle.word.specs.Word.{wordAt, withWord}
 use Rattle.relr_table.specs.Table.{spaceOf, decode, inside, Inside, All, contained, targets, indexes, added, patched, above}
 use Rattle.relr_table.specs.Contract.{changed, AppliesIn}
+use Rattle.relr_table.specs.Words.{marked}
 use Rattle.relr_table.specs.Inner.{marksOf, full, between}
-use Rattle.relr_apply.specs.Inner.{Addable, Added, Patchable, Runs, Spacious, Windows, Sized, Targeted, Aimed, Patched, End}
-use Rattle.relr_table.proofs.Marked.{all-left, all-right}
+use Rattle.relr_apply.specs.Inner.{wrapped, spotsOf, Patchable, Runs, Filled, Spacious, Windows, Sized, Targeted, Aimed, Patched, End}
+use Rattle.relr_table.proofs.Marked.{all-left, all-right, marked-none}
 use Rattle.relr_table.proofs.PlaceNeeds.{one-mark}
 use Rattle.relr_table.proofs.Passed.{step-fits, step-less, space-most}
 use Rattle.relr_table.proofs.SetBits.{Next, Left, left-begin, left-end, left-head, left-next, left-fits, next-zeros, next-full, full-none, Through, through-begin, through-end, through-clear, through-head, through-set, far-small, run-bit, run-less, zeros-fit, zeros-far, zeros-less}
-use Rattle.relr_table.proofs.Following.{Following, Followed, following-begin, following-load, following-end, follow-address, follow-bitmap, behind-on}
+use Rattle.relr_table.proofs.Steps.{marked-set, marked-clear}
+use Rattle.relr_table.proofs.Following.{Following, Followed, following-begin, following-load, following-end, follow-address, follow-bitmap}
 use Rattle.relr_table.proofs.Decoding.{decode-good, contained-space}
-use Rattle.relr_table.proofs.Applying.{patched-length, patched-more, patched-one, targets-over, targets-in, targets-accepted}
+use Rattle.relr_table.proofs.Applying.{patched-length, patched-append, patched-more, patched-one, targets-over, targets-in, targets-accepted}
 
 -- ---- an addition
 pub adds : (k : Class) (image new : List ℕ) (x base : ℕ) {w v : ℕ} → w ≡ wordAt k image x → v ≡ (w + base) % 2 ^ bitsOf k → new ≡ withWord k image x v
@@ -46,208 +48,147 @@ pub adds : (k : Class) (image new : List ℕ) (x base : ℕ) {w v : ℕ} → w �
 unfolding added
 adds k image new x base e f g = g ∙ rw (f, e)
 
--- ---- one addition or none
-module _ {k : Class} {times : ℕ} {image : List ℕ} {x : ℕ} (m : Addable k times image x) where
-  pub times-in : x + bytesOf k ≤ length image
-  times-in = m .in-image
+-- ---- indexes
+wrapped-none : wrapped [] ≡ []
+unfolding wrapped
+wrapped-none = refl
 
-  pub times-fits : (base : ℕ) → base < 2 ^ 64 → Fits w64 (base * times)
-  times-fits base h = go times (m .once)
+wrapped-cons : (x : ℕ) (l : List ℕ) → wrapped (x ∷ l) ≡ x % 2 ^ 64 ∷ wrapped l
+unfolding wrapped
+wrapped-cons x l = refl
+
+indexes-none : (start : ℕ) → indexes start [] ≡ []
+unfolding indexes
+indexes-none start = refl
+
+indexes-cons : (start x : ℕ) (l : List ℕ) → indexes start (x ∷ l) ≡ (x - start) ∷ indexes start l
+unfolding indexes
+indexes-cons start x l = refl
+
+wrapped-append : (p q : List ℕ) → wrapped (p ++ q) ≡ wrapped p ++ wrapped q
+unfolding wrapped
+wrapped-append [] q = refl
+wrapped-append (x ∷ p) q = rw (wrapped-append p q)
+
+-- one more addition behind those at some indexes
+pub wrapped-more : (k : Class) (base : ℕ) (p : List ℕ) (y : ℕ) (image : List ℕ) → patched k base (wrapped (p ++ y ∷ [])) image ≡ added k base (patched k base (wrapped p) image) (y % 2 ^ 64)
+unfolding patched wrapped
+wrapped-more k base p y image =
+    ap (λ (l : List ℕ). patched k base l image) (wrapped-append p (y ∷ [])) ∙ patched-append k base (wrapped p) (y % 2 ^ 64 ∷ []) image
+
+-- an index and an offset that stand for one another
+index-is : (f start x size c : ℕ) → size < 2 ^ 63 → (f + start) % 2 ^ 64 ≡ x % 2 ^ 64 → start ≤ x → x - start + c ≤ size → f % 2 ^ 64 ≡ x - start
+index-is f start x size c h e l r = omega arith
+
+-- and the locations of a bitmap that do, of which those that are marked lie inside an image
+module _ (c start size : ℕ) (few : size < 2 ^ 63) where
+  abbrev In : ℕ → Type 0
+  In x = (start ≤ x) × (x - start + c ≤ size)
+
+  abbrev At : ℕ → Type 0
+  At x = x % 2 ^ 64 + c ≤ size
+
+  further : (f a : ℕ) → (f + start) % 2 ^ 64 ≡ a % 2 ^ 64 → (f + c + start) % 2 ^ 64 ≡ (a + c) % 2 ^ 64
+  further f a e = omega arith
+
+  abbrev Same : ℕ → ℕ → ℕ → ℕ → Type 0
+  Same n b f a = (wrapped (marked c n b f) ≡ indexes start (marked c n b a)) × All At (marked c n b f)
+
+  spots-are : (n b f a : ℕ) → (f + start) % 2 ^ 64 ≡ a % 2 ^ 64 → All In (marked c n b a) → Same n b f a
+  spots-are zero b f a e h = rw (marked-none c b f, marked-none c b a) (wrapped-none ∙ sym (indexes-none start), tt)
+  spots-are (suc n) b f a e h = go (b % 2) refl (spots-are n (b / 2) (f + c) (a + c) (further f a e))
     where
-      go : (t : ℕ) → t < 2 → Fits w64 (base * t)
-      go zero l = record { fits = omega arith }
-      go (suc zero) l = record { fits = omega arith }
-      go (suc (suc t)) l = absurd (omega arith)
-
-  pub times-added : (base : ℕ) {new : List ℕ} {w v : ℕ} → w ≡ wordAt k image x → w < 2 ^ bitsOf k → withWord k image x w ≡ image
-      → v ≡ (w + base * times) % 2 ^ bitsOf k → new ≡ withWord k image x v → Added k base times image new x
-  times-added base {new} {w} {v} e l back f g =
-      record {
-        none = λ z.
-            let s : w + base * times ≡ w = rw z (omega arith) in
-            g ∙ ap (withWord k image x) (f ∙ rw s (mod-eq-of-lt l)) ∙ back;
-        once = λ z.
-            let s : w + base * times ≡ w + base = rw z (omega arith) in
-            adds k image new x base e (f ∙ rw s) g;
-      }
-
-pub ruleset times = (times-in, times-fits, times-added, needs)
+      go : (d : ℕ) → b % 2 ≡ d → (All In (marked c n (b / 2) (a + c)) → Same n (b / 2) (f + c) (a + c)) → Same (suc n) b f a
+      go zero z ih = rw (marked-clear c n b f z, marked-clear c n b a z) (ih (rw (marked-clear c n b a z) at h))
+      go (suc zero) o ih =
+          let i : All In (a ∷ marked c n (b / 2) (a + c)) = rw (marked-set c n b a o) at h in
+          let x : f % 2 ^ 64 ≡ a - start = index-is f start a size c few e (i .0 .0) (i .0 .1) in
+          let (p, q) = ih (i .1) in
+          rw (marked-set c n b f o, marked-set c n b a o)
+          (wrapped-cons f (marked c n (b / 2) (f + c)) ∙ rw (x, p) (sym (indexes-cons start a (marked c n (b / 2) (a + c)))), (rw x (i .0 .1), q))
+      go (suc (suc d)) o ih = absurd (omega arith)
 
 -- ---- a word's locations
-pub record Patching (k : Class) (old : List ℕ) (base start anchor set : ℕ) (image : List ℕ) (bits : ℕ) : Type 0 where
+pub record Patching (k : Class) (old : List ℕ) (base first set : ℕ) (image : List ℕ) (bits : ℕ) : Type 0 where
   pub p : List ℕ
-  pub left : Left k anchor set bits p
-  pub held : image ≡ patched k base (indexes start p) old
+  pub left : Left k first set bits p
+  pub held : image ≡ patched k base (wrapped p) old
 
-module _ {k : Class} {old : List ℕ} {base start anchor set : ℕ} (m : Patchable k start old anchor set) where
-  pub patching-begin : Patching k old base start anchor set old set
-  unfolding patched indexes
-  patching-begin = record { p = []; left = left-begin k anchor set (m .in-window); held = refl }
+module _ {k : Class} {old : List ℕ} {base first set : ℕ} (m : Patchable k old first set) where
+  pub patching-begin : Patching k old base first set old set
+  unfolding patched wrapped
+  patching-begin = record { p = []; left = left-begin k first set (m .in-window); held = refl }
 
-  module _ {image : List ℕ} {bits : ℕ} (g : Patching k old base start anchor set image bits) where
+  module _ {image : List ℕ} {bits : ℕ} (g : Patching k old base first set image bits) where
     pub patching-long : length image ≡ length old
-    patching-long = ap length (g .held) ∙ patched-length k base (indexes start (g .p)) old
+    patching-long = ap length (g .held) ∙ patched-length k base (wrapped (g .p)) old
 
-    pub patching-end : bits ≡ 0 → image ≡ patched k base (indexes start (marksOf k set anchor)) old
+    pub patching-end : bits ≡ 0 → image ≡ patched k base (spotsOf k set first) old
     patching-end z = let e = left-end (g .left) z in rw e (g .held)
 
-    module _ {t rest c : ℕ} (n : Next k anchor bits t rest) (ce : c ≡ bytesOf k) where
-      here : Inside k start (length old) (anchor + t * bytesOf k)
+    module _ {t rest c x : ℕ} (n : Next k first bits t rest) (ce : c ≡ bytesOf k) (xe : x ≡ (first + t * c) % 2 ^ 64) where
+      here : (first + t * bytesOf k) % 2 ^ 64 + bytesOf k ≤ length old
       here =
-          all-right (Inside k start (length old)) (g .p) ((anchor + t * bytesOf k) ∷ marksOf k rest anchor)
-          (subst (All (Inside k start (length old))) (left-head (g .left) n) (m .in-image)) .0
+          let P : ℕ → Type 0 = λ y. y % 2 ^ 64 + bytesOf k ≤ length old in
+          all-right P (g .p) ((first + t * bytesOf k) ∷ marksOf k rest first) (subst (All P) (left-head (g .left) n) (m .in-image)) .0
 
-      next-low : start ≤ anchor + t * c
-      next-low = rw ce (here .0)
+      next-in : x + bytesOf k ≤ length image
+      next-in = rw (xe, ce, patching-long) here
 
-      next-in : anchor + t * c - start + bytesOf k ≤ length image
-      next-in = rw (ce, patching-long) (here .1)
-
-      next-fits : Fits w64 (anchor + t * c)
-      next-fits = rw ce (left-fits (g .left) n (m .in-space))
-
-      next-set : {new : List ℕ} → new ≡ added k base image (anchor + t * c - start) → Patching k old base start anchor set new rest
+      next-set : {new : List ℕ} → new ≡ added k base image x → Patching k old base first set new rest
       next-set {new} e =
-          let x = anchor + t * bytesOf k in
+          let y = first + t * bytesOf k in
           record {
-            p = g .p ++ x ∷ [];
+            p = g .p ++ y ∷ [];
             left = left-next (g .left) n;
-            held = (rw ce at e) ∙ rw (g .held, patched-more) (sym (patched-one k base start x (patched k base (indexes start (g .p)) old)));
+            held = (rw (xe, ce) at e) ∙ rw (g .held) (sym (wrapped-more k base (g .p) y old));
           }
 
     -- by trailing zeros
-    module _ {c : ℕ} (nz : bits ≡ 0 → ⊥) (ce : c ≡ bytesOf k) where
-      zeros : Next k anchor bits (trailingZeros 64 bits) (bitAnd bits (bits - 1))
-      zeros = next-zeros k anchor bits nz (g .left .small)
+    module _ {c x : ℕ} (nz : bits ≡ 0 → ⊥) (ce : c ≡ bytesOf k) (xe : x ≡ (first + trailingZeros 64 bits * c) % 2 ^ 64) where
+      zeros : Next k first bits (trailingZeros 64 bits) (bitAnd bits (bits - 1))
+      zeros = next-zeros k first bits nz (g .left .small)
 
-      pub zeros-low : start ≤ anchor + trailingZeros 64 bits * c
-      zeros-low = next-low zeros ce
+      pub zeros-in : x + bytesOf k ≤ length image
+      zeros-in = next-in zeros ce xe
 
-      pub zeros-in : anchor + trailingZeros 64 bits * c - start + bytesOf k ≤ length image
-      zeros-in = next-in zeros ce
+      pub zeros-set : {new : List ℕ} → new ≡ added k base image x → Patching k old base first set new (bitAnd bits (bits - 1))
+      zeros-set = next-set zeros ce xe
 
-      pub zeros-fits : Fits w64 (anchor + trailingZeros 64 bits * c)
-      zeros-fits = next-fits zeros ce
-
-      pub zeros-set : {new : List ℕ} → new ≡ added k base image (anchor + trailingZeros 64 bits * c - start)
-          → Patching k old base start anchor set new (bitAnd bits (bits - 1))
-      zeros-set = next-set zeros ce
-
-pub ruleset patchings = (adds, patching-begin, patching-long, patching-end, zeros-low, zeros-in, zeros-fits, zeros-set, zeros-fit, zeros-far, zeros-less, needs)
+pub ruleset patchings = (adds, patching-begin, patching-long, patching-end, zeros-in, zeros-set, zeros-fit, zeros-far, zeros-less, needs)
 
 -- where all bits are set
-pub record Running (k : Class) (old : List ℕ) (base start anchor n : ℕ) (image : List ℕ) (j : ℕ) : Type 0 where
+pub record Running (k : Class) (old : List ℕ) (base first n : ℕ) (image : List ℕ) (j : ℕ) : Type 0 where
   pub window : n ≡ windowOf k
   pub within : j ≤ n
-  pub patching : Patching k old base start anchor (full k) image (2 ^ windowOf k - 2 ^ j)
+  pub patching : Patching k old base first (full k) image (2 ^ windowOf k - 2 ^ j)
 
-module _ {k : Class} {old : List ℕ} {base start anchor n : ℕ} (r : Runs k n start old anchor) where
-  pub running-begin : Running k old base start anchor n old 0
+module _ {k : Class} {old : List ℕ} {base first n : ℕ} (r : Runs k n old first) where
+  pub running-begin : Running k old base first n old 0
   running-begin = record { window = r .locations; within = omega arith; patching = patching-begin (r .patchable) }
 
-  module _ {image : List ℕ} {j : ℕ} (g : Running k old base start anchor n image j) where
+  module _ {image : List ℕ} {j : ℕ} (g : Running k old base first n image j) where
     pub running-long : length image ≡ length old
     running-long = patching-long (r .patchable) (g .patching)
 
-    pub running-end : n ≤ j → image ≡ patched k base (indexes start (marksOf k (full k) anchor)) old
+    pub running-end : n ≤ j → image ≡ patched k base (spotsOf k (full k) first) old
     running-end l = patching-end (r .patchable) (g .patching) (full-none k j (omega (arith, g .within, g .window)))
 
     module _ {c : ℕ} (l : j < n) (ce : c ≡ bytesOf k) where
-      step : Next k anchor (2 ^ windowOf k - 2 ^ j) j (2 ^ windowOf k - 2 ^ (j + 1))
-      step = next-full k anchor j (omega (arith, g .window))
+      step : Next k first (2 ^ windowOf k - 2 ^ j) j (2 ^ windowOf k - 2 ^ (j + 1))
+      step = next-full k first j (omega (arith, g .window))
 
       pub running-far : Fits w64 (j * c)
       running-far = far-small k j (step .within) ce
 
-      pub running-low : start ≤ anchor + j * c
-      running-low = next-low (r .patchable) (g .patching) step ce
+      module _ {x : ℕ} (xe : x ≡ (first + j * c) % 2 ^ 64) where
+        pub running-in : x + bytesOf k ≤ length image
+        running-in = next-in (r .patchable) (g .patching) step ce xe
 
-      pub running-in : anchor + j * c - start + bytesOf k ≤ length image
-      running-in = next-in (r .patchable) (g .patching) step ce
+        pub running-set : {new : List ℕ} → new ≡ added k base image x → Running k old base first n new (j + 1)
+        running-set e = record { window = g .window; within = omega arith; patching = next-set (r .patchable) (g .patching) step ce xe e }
 
-      pub running-fits : Fits w64 (anchor + j * c)
-      running-fits = next-fits (r .patchable) (g .patching) step ce
-
-      pub running-set : {new : List ℕ} → new ≡ added k base image (anchor + j * c - start) → Running k old base start anchor n new (j + 1)
-      running-set e = record { window = g .window; within = omega arith; patching = next-set (r .patchable) (g .patching) step ce e }
-
-pub ruleset runnings = (running-begin, running-long, running-end, running-far, running-low, running-in, running-fits, running-set, run-bit, run-less, needs)
-
--- location by location: x is the index of the location at j
-pub record Sweeping (k : Class) (old : List ℕ) (base start anchor set at : ℕ) (image : List ℕ) (bits x j : ℕ) : Type 0 where
-  pub p : List ℕ
-  pub through : Through k anchor set j p
-  pub rest : bits ≡ set / 2 ^ j
-  pub here : x ≡ at + j * bytesOf k
-  pub held : image ≡ patched k base (indexes start p) old
-
--- an index and an offset that stand for one another, further on
-index-is : (at start anchor t : ℕ) → (at + start) % 2 ^ 64 ≡ anchor → start ≤ anchor + t → at + t < 2 ^ 64 → at + t ≡ anchor + t - start
-index-is at start anchor t e l h = omega arith
-
-module _ {k : Class} {old : List ℕ} {base n c start anchor set at : ℕ} (m : Spacious k n c start old anchor set) where
-  pub sweeping-begin : Sweeping k old base start anchor set at old set at 0
-  unfolding patched indexes
-  sweeping-begin = record { p = []; through = through-begin k anchor set; rest = omega arith; here = omega arith; held = refl }
-
-  module _ {image : List ℕ} {bits x j : ℕ} (g : Sweeping k old base start anchor set at image bits x j) where
-    pub sweeping-long : length image ≡ length old
-    sweeping-long = ap length (g .held) ∙ patched-length k base (indexes start (g .p)) old
-
-    pub sweeping-end : n ≤ j → image ≡ patched k base (indexes start (marksOf k set anchor)) old
-    sweeping-end h = let e = through-end (g .through) (omega (arith, m .locations)) in rw e (g .held)
-
-    module _ (l : j < n) where
-      module _ (small : at < 2 ^ 64) (ae : (at + start) % 2 ^ 64 ≡ anchor) where
-        less : j < windowOf k
-        less = omega (arith, m .locations)
-
-        sweeping-room : x + bytesOf k ≤ length old
-        sweeping-room = omega (arith, g .here, m .room at small ae, mul-le-mul-right (bytesOf k) (next less))
-          where
-            next : j < windowOf k → j + 1 ≤ windowOf k
-            next h = omega arith
-
-        pub sweeping-addable : Addable k (bits % 2) image x
-        sweeping-addable = record { once = omega arith; in-image = rw sweeping-long sweeping-room }
-
-        pub sweeping-on : length old * 1 < 2 ^ 63 → Fits w64 (x + c)
-        sweeping-on h = record { fits = omega (arith, m .bytes, sweeping-room) }
-
-        module _ {new : List ℕ} (a : Added k base (bits % 2) image new x) (h : length old * 1 < 2 ^ 63) where
-          half : bits / 2 ≡ set / 2 ^ (j + 1)
-          half = rw (g .rest) (shr-shr set j 1)
-
-          next : x + c ≡ at + (j + 1) * bytesOf k
-          next = rw (m .bytes, g .here) (omega arith)
-
-          clear : bits % 2 ≡ 0 → Sweeping k old base start anchor set at new (bits / 2) (x + c) (j + 1)
-          clear e = record { p = g .p; through = through-clear (g .through) less (rw (g .rest) at e); rest = half; here = next; held = a .none e ∙ g .held }
-
-          marks : bits % 2 ≡ 1 → Sweeping k old base start anchor set at new (bits / 2) (x + c) (j + 1)
-          marks e =
-              let f : set / 2 ^ j % 2 ≡ 1 = rw (g .rest) at e in
-              let y = anchor + j * bytesOf k in
-              let P = Inside k start (length old) in
-              let inside = all-right P (g .p) _ (subst (All P) (through-head (g .through) less f) (m .patchable .in-image)) .0 in
-              let is : x ≡ y - start = g .here ∙ index-is at start anchor (j * bytesOf k) ae (inside .0) (omega (arith, g .here, sweeping-room)) in
-              record {
-                p = g .p ++ y ∷ [];
-                through = through-set (g .through) less f;
-                rest = half;
-                here = next;
-                held = a .once e ∙ rw (is, g .held, patched-more) (sym (patched-one k base start y (patched k base (indexes start (g .p)) old)));
-              }
-
-          pub sweeping-next : Sweeping k old base start anchor set at new (bits / 2) (x + c) (j + 1)
-          sweeping-next = go (bits % 2) refl
-            where
-              go : (d : ℕ) → bits % 2 ≡ d → Sweeping k old base start anchor set at new (bits / 2) (x + c) (j + 1)
-              go zero e = clear e
-              go (suc zero) e = marks e
-              go (suc (suc d)) e = absurd (omega arith)
-
-pub ruleset sweepings = (sweeping-begin, sweeping-long, sweeping-end, sweeping-addable, sweeping-on, sweeping-next, run-bit, run-less, needs)
+pub ruleset runnings = (running-begin, running-long, running-end, running-far, running-in, running-set, run-bit, run-less, needs)
 
 -- how many windows fit
 module _ (k : Class) (size : ℕ) {d : ℕ} (de : d ≡ windowOf k * bytesOf k) where
@@ -275,40 +216,47 @@ module _ (k : Class) (size : ℕ) {d : ℕ} (de : d ≡ windowOf k * bytesOf k) 
 pub ruleset fittings = (windows-none, windows-some, windows-fit, needs)
 
 -- which it is
-module _ {k : Class} {n c all room start : ℕ} {image : List ℕ} {anchor set : ℕ} (s : Sized k n c all room start image anchor set) where
-  pub bitmap-marks : Patchable k start image anchor set
+module _ {k : Class} {n base : ℕ} {rows : List ℕ} {all room : ℕ} {image : List ℕ} {first set : ℕ} (s : Sized k n base rows all room image first set) where
+  pub bitmap-marks : Patchable k image first set
   bitmap-marks = s .patchable
 
-  pub bitmap-spacious : {r : ℕ} → r < 2 ^ 64 → (r + start) % 2 ^ 64 ≡ anchor → r < room → Spacious k n c start image anchor set
-  bitmap-spacious {r} small e l =
+  pub bitmap-spacious : first < room → Spacious k n base rows image first
+  bitmap-spacious l =
       record {
         locations = s .paced .locations;
-        bytes = s .paced .bytes;
-        patchable = s .patchable;
-        room = λ d h f. let same : d ≡ r = omega arith in rw same (leb-true (r + windowOf k * bytesOf k) (length image) (sym (s .paced .windows .are r) ∙ lt-ltb r room l));
+        addends = s .paced .addends;
+        room = leb-true (first + windowOf k * bytesOf k) (length image) (sym (s .paced .windows .are first) ∙ lt-ltb first room l);
       }
 
   module _ (e : set ≡ all) where
-    pub bitmap-run : Runs k n start image anchor
-    bitmap-run =
-        record { locations = s .paced .locations; patchable = subst (λ (b : ℕ). Patchable k start image anchor b) (e ∙ s .paced .bits) (s .patchable) }
+    pub bitmap-run : Runs k n image first
+    bitmap-run = record { locations = s .paced .locations; patchable = subst (λ (b : ℕ). Patchable k image first b) (e ∙ s .paced .bits) (s .patchable) }
 
-    pub bitmap-ran : {new : List ℕ} (base : ℕ) → new ≡ patched k base (indexes start (marksOf k (full k) anchor)) image
-        → new ≡ patched k base (indexes start (marksOf k set anchor)) image
-    bitmap-ran {new} base = subst (λ (b : ℕ). new ≡ patched k base (indexes start (marksOf k b anchor)) image) (sym (e ∙ s .paced .bits))
+    pub bitmap-ran : {new : List ℕ} → new ≡ patched k base (spotsOf k (full k) first) image → new ≡ patched k base (spotsOf k set first) image
+    bitmap-ran {new} = subst (λ (b : ℕ). new ≡ patched k base (spotsOf k b first) image) (sym (e ∙ s .paced .bits))
 
 pub ruleset bitmaps = (bitmap-marks, bitmap-spacious, bitmap-run, bitmap-ran, needs)
 
 -- ---- a table's words
+-- the index of the word before *where*, and of the first location of the next bitmap
+index-of : (p start c : ℕ) → ((p + c) % 2 ^ 64 + start) % 2 ^ 64 ≡ (p + start + c) % 2 ^ 64 % 2 ^ 64
+index-of p start c = omega arith
+
+-- from there to the one before the next
+behind-on : (p start c d : ℕ) → ((p + d) % 2 ^ 64 + start + c) % 2 ^ 64 ≡ ((p + start + c) % 2 ^ 64 + d) % 2 ^ 64
+behind-on p start c d = omega arith
+
+-- the index of the word before *where* is kept
 pub record Working (k : Class) (s old : List ℕ) (base start at behind : ℕ) (image : List ℕ) : Type 0 where
   pub list : List ℕ
-  pub following : Following k s list at ((behind + bytesOf k) % 2 ^ 64)
+  pub following : Following k s list at ((behind + start + bytesOf k) % 2 ^ 64)
+  pub few : length old * 1 < 2 ^ 63
   pub held : image ≡ patched k base (indexes start list) old
 
-module _ {k : Class} {n step all room : ℕ} {s old : List ℕ} {base start : ℕ} (t : Aimed k n step all room s start old) where
-  pub working-begin : Working k s old base start 0 0 old
+module _ {k : Class} {n base : ℕ} {rows : List ℕ} {all room : ℕ} {s old : List ℕ} {start : ℕ} (t : Aimed k n base rows all room s start old) where
+  pub working-begin : length old * 1 < 2 ^ 63 → Working k s old base start 0 0 old
   unfolding patched indexes
-  working-begin = record { list = []; following = following-begin k s _ (t .targeted .good .whole); held = refl }
+  working-begin h = record { list = []; following = following-begin k s _ (t .targeted .good .whole); few = h; held = refl }
 
   module _ {at behind : ℕ} {image : List ℕ} (g : Working k s old base start at behind image) where
     pub working-long : length image ≡ length old
@@ -324,9 +272,9 @@ module _ {k : Class} {n step all room : ℕ} {s old : List ℕ} {base start : �
           let P = Inside k start (length old) in
           rw working-long (all-right P (g .list) (marksOf k set anchor) (all-left P (g .list ++ marksOf k set anchor) (a .rest) (rw (a .whole) at (t .targeted .in-image))))
 
-      more : {new : List ℕ} {c b : ℕ} → c ≡ bytesOf k → (b + bytesOf k) % 2 ^ 64 ≡ next → new ≡ patched k base (indexes start (marksOf k set anchor)) image
+      more : {new : List ℕ} {c b : ℕ} → c ≡ bytesOf k → (b + start + bytesOf k) % 2 ^ 64 ≡ next → new ≡ patched k base (indexes start (marksOf k set anchor)) image
           → Working k s old base start (at + c) b new
-      more ce be u = rw ce (record { list = g .list ++ marksOf k set anchor; following = rw be (word .on); held = u ∙ rw (g .held, patched-more) })
+      more ce be u = rw ce (record { list = g .list ++ marksOf k set anchor; following = rw be (word .on); few = g .few; held = u ∙ rw (g .held, patched-more) })
 
     module _ {x : ℕ} (l : at < length s) (e : x ≡ wordAt k s at) where
       module _ (even : x % 2 ≡ 0) where
@@ -342,33 +290,38 @@ module _ {k : Class} {n step all room : ℕ} {s old : List ℕ} {base start : �
         pub working-in : x - start + bytesOf k ≤ length image
         working-in = word-inside .1
 
-        pub working-one : {new : List ℕ} {c : ℕ} → c ≡ bytesOf k → new ≡ added k base image (x - start) → Working k s old base start (at + c) x new
-        working-one ce u = more alone ce refl (u ∙ rw (one-mark k x) (sym (patched-one k base start x image)))
+        pub working-one : {new : List ℕ} {c : ℕ} → c ≡ bytesOf k → new ≡ added k base image (x - start) → Working k s old base start (at + c) (x - start) new
+        working-one ce u =
+            let back : x - start + start ≡ x = omega (arith, working-low) in
+            more alone ce (rw back) (u ∙ rw (one-mark k x) (sym (patched-one k base start x image)))
 
-      module _ {c a : ℕ} (small : x < spaceOf k) (odd : x % 2 ≡ 0 → ⊥) (ce : c ≡ bytesOf k) (ae : a ≡ (behind + c) % 2 ^ 64) where
-        anchor : a ≡ (behind + bytesOf k) % 2 ^ 64
-        anchor = ae ∙ rw ce
+      module _ {c f : ℕ} (small : x < spaceOf k) (odd : x % 2 ≡ 0 → ⊥) (ce : c ≡ bytesOf k) (fe : f ≡ (behind + c) % 2 ^ 64) where
+        abbrev a : ℕ
+        a = (behind + start + bytesOf k) % 2 ^ 64
 
         word : Followed k s (g .list) (t .targeted .good .list) at a (x / 2) ((a + windowOf k * bytesOf k) % 2 ^ 64)
-        word = rw anchor (follow-bitmap (g .following) (t .targeted .good .is) l e small odd)
+        word = follow-bitmap (g .following) (t .targeted .good .is) l e small odd
 
-        pub working-marks : Sized k n step all room start image a (x / 2)
-        working-marks =
-            record {
-              patchable = record { in-window = word .in-window; in-space = word .among .fits; in-image = in-image word };
-              paced = rw working-long (t .paced);
-            }
+        fewer : length image < 2 ^ 63
+        fewer = omega (arith, working-long, g .few)
 
-        more-of : {new : List ℕ} {d b : ℕ} → d ≡ windowOf k * bytesOf k → b ≡ (behind + d) % 2 ^ 64
-            → new ≡ patched k base (indexes start (marksOf k (x / 2) a)) image → Working k s old base start (at + c) b new
-        more-of {d = d} de be u = more word ce (rw (be, ← de) (behind-on behind a d (bytesOf k) anchor)) u
+        spots : (spotsOf k (x / 2) f ≡ indexes start (marksOf k (x / 2) a)) × All (λ y. y % 2 ^ 64 + bytesOf k ≤ length image) (marksOf k (x / 2) f)
+        spots = spots-are (bytesOf k) start (length image) fewer (windowOf k) (x / 2) f a (rw (fe, ce) (index-of behind start (bytesOf k))) (in-image word)
+
+        pub working-marks : Sized k n base rows all room image f (x / 2)
+        working-marks = record { patchable = record { in-window = word .in-window; in-image = spots .1 }; paced = rw working-long (t .paced) }
+
+        more-of : {new : List ℕ} {d b : ℕ} → d ≡ windowOf k * bytesOf k → b ≡ (behind + d) % 2 ^ 64 → new ≡ patched k base (spotsOf k (x / 2) f) image
+            → Working k s old base start (at + c) b new
+        more-of {d = d} de be u =
+            more word ce (rw (be, ← de) (behind-on behind start (bytesOf k) d)) (u ∙ ap (λ (l : List ℕ). patched k base l image) (spots .0))
 
 -- what the bitmap does comes first, since it shows where it stands
-pub working-more : {k : Class} {n step all room : ℕ} {s old : List ℕ} {base start at behind : ℕ} {image new : List ℕ} {x c a d b : ℕ}
-    → new ≡ patched k base (indexes start (marksOf k (x / 2) a)) image → a ≡ (behind + c) % 2 ^ 64 → b ≡ (behind + d) % 2 ^ 64 → x ≡ wordAt k s at
-    → Working k s old base start at behind image → Aimed k n step all room s start old → at < length s → x < spaceOf k → (x % 2 ≡ 0 → ⊥) → c ≡ bytesOf k → d ≡ windowOf k * bytesOf k
-    → Working k s old base start (at + c) b new
-working-more u ae be e g f l small odd ce de = more-of f g l e small odd ce ae de be u
+pub working-more : {k : Class} {n base : ℕ} {rows : List ℕ} {all room : ℕ} {s old : List ℕ} {start at behind : ℕ} {image new : List ℕ} {x c f d b : ℕ}
+    → new ≡ patched k base (spotsOf k (x / 2) f) image → f ≡ (behind + c) % 2 ^ 64 → b ≡ (behind + d) % 2 ^ 64 → x ≡ wordAt k s at
+    → Working k s old base start at behind image → Aimed k n base rows all room s start old → at < length s → x < spaceOf k → (x % 2 ≡ 0 → ⊥) → c ≡ bytesOf k
+    → d ≡ windowOf k * bytesOf k → Working k s old base start (at + c) b new
+working-more u fe be e g t l small odd ce de = more-of t g l e small odd ce fe de be u
 
 module _ {k : Class} {s old : List ℕ} {base start at behind : ℕ} {image : List ℕ} (g : Working k s old base start at behind image) where
   pub working-load : at < length s → at + bytesOf k ≤ length s
@@ -379,14 +332,14 @@ pub ruleset workings = (working-begin, working-long, working-end, working-low, w
 -- ---- one class by two names
 module _ {k j : Class} (e : k ≡ j) (s old : List ℕ) (start : ℕ) where
   -- the numbers are said of the class that flags name, and the table's of the class that was handed in
-  pub aimed-to : {step all room : ℕ} → step ≡ bytesOf k → all ≡ full k → Windows k (length old) room → Targeted k s start old → Aimed j (windowOf j) step all room s start old
-  aimed-to {step} {all} {room} se ae w h =
-      subst (λ (i : Class). Aimed i (windowOf i) step all room s start old) e
-      (record { targeted = h; paced = record { locations = refl; bytes = se; bits = ae; windows = w } })
+  pub aimed-to : {base : ℕ} {rows : List ℕ} {all room : ℕ} → Filled k base 8 rows → all ≡ full k → Windows k (length old) room → Targeted k s start old
+      → Aimed j (windowOf j) base rows all room s start old
+  aimed-to {base} {rows} {all} {room} r ae w h =
+      subst (λ (i : Class). Aimed i (windowOf i) base rows all room s start old) e
+      (record { targeted = h; paced = record { locations = refl; addends = r; bits = ae; windows = w } })
 
-  pub aimed-from : {n step all room : ℕ} → n ≡ windowOf k → Aimed j (windowOf j) step all room s start old → Aimed k n step all room s start old
-  aimed-from {n} {step} {all} {room} ne h =
-      rw ne (subst (λ (i : Class). Aimed i (windowOf i) step all room s start old) (sym e) h)
+  pub aimed-from : {n base : ℕ} {rows : List ℕ} {all room : ℕ} → n ≡ windowOf k → Aimed j (windowOf j) base rows all room s start old → Aimed k n base rows all room s start old
+  aimed-from {n} {base} {rows} {all} {room} ne h = rw ne (subst (λ (i : Class). Aimed i (windowOf i) base rows all room s start old) (sym e) h)
 
   module _ (base : ℕ) {new : List ℕ} where
     pub patched-to : Patched k s base start old new → Patched j s base start old new

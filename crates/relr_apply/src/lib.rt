@@ -1,12 +1,12 @@
 // Applying a table to an image: an addition for each offset.
 ghost use mathlib.Core.Path.{_≡_};
-ghost use Prim.Native.Nat.{_+_, _≤_};
+ghost use Prim.Native.Nat.{_+_, _/_, _≤_};
 ghost use lib.ListN.{length};
 ghost use Rattle.word.specs.Class.{bytesOf, windowOf};
-ghost use Rattle.relr_table.specs.Table.{above, indexes, added, patched};
+ghost use Rattle.relr_table.specs.Table.{above, added, patched};
 ghost use Rattle.relr_table.specs.Contract.{AppliesIn};
-ghost use Rattle.relr_table.specs.Inner.{flagged, marksOf, full};
-ghost use Rattle.relr_apply.specs.Inner.{Addable, Added, Patchable, Runs, Spacious, Windows, Sized, Targeted, Aimed, Patched, End};
+ghost use Rattle.relr_table.specs.Inner.{flagged, full};
+ghost use Rattle.relr_apply.specs.Inner.{spotsOf, Patchable, Runs, lowOf, Rows, Summed, Row, RowAdded, Spacious, Windows, Sized, Targeted, Aimed, Patched, End};
 use answer::Answer;
 use answer::Found;
 use answer::Refusal;
@@ -24,65 +24,109 @@ fn add_at(k: Class, image: &mut [u8], x: usize, base: u64)
     word::store(k, &mut *image, x, word::add(k, w, base));
 }
 
-// Adds the base to the word at x once, or not at all.
-fn add_times(k: Class, image: &mut [u8], x: usize, base: u64, times: u64)
-    requires { ⌜ Addable k times (now image) x ⌝ }
-    ensures { λ _. ⌜ Added k base times (now (image .entry)) (now (image .exit)) x ⌝ }
-{
-    let w = word::load(k, image, x);
-    word::store(k, &mut *image, x, word::add(k, w, base * times));
-}
-
-// Adds the base at each location that the bits mark from an offset on.
-fn patch_marks(k: Class, image: &mut [u8], base: u64, start: u64, anchor: u64, set: u64)
-    requires { ⌜ Patchable k start (now image) anchor set ⌝ }
-    ensures { λ _. ⌜ now (image .exit) ≡ patched k base (indexes start (marksOf k set anchor)) (now (image .entry)) ⌝ }
+// Adds the base to each word that the bits mark from an index on. (Where bits are clear an index may lie outside the image, and below it wraps.)
+fn patch_marks(k: Class, image: &mut [u8], base: u64, first: u64, set: u64)
+    requires { ⌜ Patchable k (now image) first set ⌝ }
+    ensures { λ _. ⌜ now (image .exit) ≡ patched k base (spotsOf k set first) (now (image .entry)) ⌝ }
 {
     let mut bits = set;
     while bits != 0 {
         let zeros = u64::trailing_zeros(bits) as u64;
-        let x = anchor + zeros * (k.bytes() as u64);
-        add_at(k, &mut *image, (x - start) as usize, base);
+        let x = std::num::wrapping_add_u64(first, zeros * (k.bytes() as u64));
+        add_at(k, &mut *image, x as usize, base);
         bits = bits & (bits - 1);
     }
 }
 
 // The same where all bits are set, n of them. (Where words are low byte first the compiler makes the loop wide.)
-fn patch_run(k: Class, n: u64, image: &mut [u8], base: u64, start: u64, anchor: u64)
-    requires { ⌜ Runs k n start (now image) anchor ⌝ }
-    ensures { λ _. ⌜ now (image .exit) ≡ patched k base (indexes start (marksOf k (full k) anchor)) (now (image .entry)) ⌝ }
+fn patch_run(k: Class, n: u64, image: &mut [u8], base: u64, first: u64)
+    requires { ⌜ Runs k n (now image) first ⌝ }
+    ensures { λ _. ⌜ now (image .exit) ≡ patched k base (spotsOf k (full k) first) (now (image .entry)) ⌝ }
 {
     let mut j: u64 = 0;
     while j < n {
-        let x = anchor + j * (k.bytes() as u64);
-        add_at(k, &mut *image, (x - start) as usize, base);
+        let x = std::num::wrapping_add_u64(first, j * (k.bytes() as u64));
+        add_at(k, &mut *image, x as usize, base);
         j += 1;
     }
 }
 
-// The same where the whole window lies inside the image: a location whose bit is clear gets 0 added, so that no branch hangs on a bit.
+// The class of the same words, low byte first.
+fn low(k: Class) -> Class
+    ensures { λ r. ⌜ r ≡ lowOf k ⌝ }
+{
+    let size = k.size;
+    Class {
+        size: size,
+        order: ByteOrder::Little,
+    }
+}
+
+// Two bits mark none, one or both of two words. For each two bits the addends of those words stand in a row: the base, or 0.
+fn fill_rows(k: Class, rows: &mut [u8], base: u64)
+    requires { ⌜ length (now rows) ≡ 64 ⌝ }
+    ensures { λ _. ⌜ Rows k base (now (rows .exit)) ⌝ }
+{
+    let c = k.bytes() as usize;
+    let mut e: u64 = 0;
+    while e < 8 {
+        let addend = word::add(k, 0, base * ((e / 2 >> (e % 2)) % 2));
+        word::store(low(k), &mut *rows, e as usize * c, addend);
+        e += 1;
+    }
+}
+
+// Adds to the image's word at x the one of the rows at y.
+fn add_entry(k: Class, image: &mut [u8], x: usize, rows: &[u8], y: usize)
+    requires { ⌜ (x + bytesOf k ≤ length (now image)) × (y + bytesOf k ≤ length (now rows)) ⌝ }
+    ensures { λ _. ⌜ Summed k (now (rows .entry)) y (now (image .entry)) (now (image .exit)) x ⌝ }
+{
+    let w = word::load(k, image, x);
+    let v = word::load(low(k), rows, y);
+    word::store(k, &mut *image, x, word::add(k, w, v));
+}
+
+// Adds a row to so many bytes of the image, one word or two; the base is what the rows were made of. (Where words are low byte first the compiler adds
+// both at once.)
+fn add_row(k: Class, image: &mut [u8], x: usize, rows: &[u8], base: u64, bits: u64, bytes: usize)
+    requires { ⌜ Row k base (now rows) (now image) x bits bytes ⌝ }
+    ensures { λ _. ⌜ RowAdded k base bytes bits x (now (image .entry)) (now (image .exit)) ⌝ }
+{
+    let c = k.bytes() as usize;
+    let y = bits as usize * (2 * c);
+    let mut j: usize = 0;
+    while j < bytes {
+        add_entry(k, &mut *image, x + j, rows, y + j);
+        j += c;
+    }
+}
+
+// Adds the base as the bits say where the whole window lies inside the image: a word whose bit is clear gets 0 added, so that no branch hangs on a bit.
 fn patch_window(
     k: Class,
     window: u64,
-    step: u64,
+    rows: &[u8],
     image: &mut [u8],
     base: u64,
-    start: u64,
-    anchor: u64,
+    first: u64,
     set: u64,
 )
-    requires { ⌜ Spacious k window step start (now image) anchor set ⌝ }
-    ensures { λ _. ⌜ now (image .exit) ≡ patched k base (indexes start (marksOf k set anchor)) (now (image .entry)) ⌝ }
+    requires { ⌜ Spacious k window base (now rows) (now image) first ⌝ }
+    ensures { λ _. ⌜ now (image .exit) ≡ patched k base (spotsOf k set first) (now (image .entry)) ⌝ }
 {
-    let at = std::num::wrapping_sub_u64(anchor, start) as usize;
+    let c = k.bytes() as usize;
     let mut bits = set;
-    let mut x = at;
+    let mut x = first as usize;
     let mut j: u64 = 0;
     while j < window {
-        add_times(k, &mut *image, x, base, bits % 2);
-        x += step as usize;
-        bits = bits / 2;
-        j += 1;
+        let mut n = 2 * c;
+        if window - j < 2 {
+            n = c;
+        }
+        add_row(k, &mut *image, x, rows, base, bits % 4, n);
+        x += 2 * c;
+        bits = bits / 4;
+        j += 2;
     }
 }
 
@@ -98,41 +142,44 @@ fn windows(k: Class, size: usize) -> u64
     n - stride + 1
 }
 
-// Whichever is fastest. (Bits that are all set are many.)
+// A bitmap, whichever way is fastest. (If two neighbours of its upper bits are set, which makes a number larger than `dense`, most often many bits
+// are; full bitmaps are among those.)
 fn patch_bitmap(
     k: Class,
     window: u64,
-    step: u64,
+    rows: &[u8],
+    dense: u64,
     all: u64,
     room: u64,
     image: &mut [u8],
     base: u64,
-    start: u64,
-    anchor: u64,
-    set: u64,
+    first: u64,
+    x: u64,
 )
-    requires { ⌜ Sized k window step all room start (now image) anchor set ⌝ }
-    ensures { λ _. ⌜ now (image .exit) ≡ patched k base (indexes start (marksOf k set anchor)) (now (image .entry)) ⌝ }
+    requires { ⌜ Sized k window base (now rows) all room (now image) first (x / 2) ⌝ }
+    ensures { λ _. ⌜ now (image .exit) ≡ patched k base (spotsOf k (x / 2) first) (now (image .entry)) ⌝ }
 {
-    if place::crowded(k, set) {
+    let set = x / 2;
+    if dense < x & set {
         if set == all {
-            patch_run(k, window, image, base, start, anchor);
+            patch_run(k, window, image, base, first);
             return;
         }
-        if std::num::wrapping_sub_u64(anchor, start) < room {
-            patch_window(k, window, step, image, base, start, anchor, set);
+        if first < room {
+            patch_window(k, window, rows, image, base, first, set);
             return;
         }
     }
-    patch_marks(k, image, base, start, anchor, set);
+    patch_marks(k, image, base, first, set);
 }
 
-// The second pass, over a table that the first accepted, whose words all lie inside the image. The location a word before *where* is kept, and
-// wraps: beyond the space no bitmap has a bit set. (The numbers that it goes by are handed in: so the compiler puts it in line for each class.)
+// The second pass, over a table that the first accepted, whose words all lie inside the image. The index of the word before *where* is kept, and
+// wraps: beyond the space no bitmap has a bit set. (What it goes by is handed in: so the compiler puts it in line for each class.)
 fn patch(
     k: Class,
     window: u64,
-    step: u64,
+    rows: &[u8],
+    dense: u64,
     all: u64,
     room: u64,
     s: &[u8],
@@ -140,7 +187,7 @@ fn patch(
     start: u64,
     image: &mut [u8],
 )
-    requires { ⌜ Aimed k window step all room (now s) start (now image) ⌝ }
+    requires { ⌜ Aimed k window base (now rows) all room (now s) start (now image) ⌝ }
     ensures { λ _. ⌜ Patched k (now (s .entry)) base start (now (image .entry)) (now (image .exit)) ⌝ }
 {
     let c = k.bytes() as usize;
@@ -151,32 +198,33 @@ fn patch(
         let x = word::load(k, s, at);
         at += c;
         if x % 2 == 0 {
-            add_at(k, &mut *image, (x - start) as usize, base);
-            behind = x;
+            behind = x - start;
+            add_at(k, &mut *image, behind as usize, base);
         } else {
-            let anchor = std::num::wrapping_add_u64(behind, c as u64);
+            let first = std::num::wrapping_add_u64(behind, c as u64);
             patch_bitmap(
                 k,
                 window,
-                step,
+                rows,
+                dense,
                 all,
                 room,
                 &mut *image,
                 base,
-                start,
-                anchor,
-                x / 2,
+                first,
+                x,
             );
             behind = std::num::wrapping_add_u64(behind, stride);
         }
     }
 }
 
-// The same by flags for the class and for each class, so that the compiler makes a loop for each.
+// The same by flags for the class, so that the compiler makes a loop for each.
 fn patch_by(
     wide: bool,
     big: bool,
-    step: u64,
+    rows: &[u8],
+    dense: u64,
     all: u64,
     room: u64,
     s: &[u8],
@@ -184,30 +232,43 @@ fn patch_by(
     start: u64,
     image: &mut [u8],
 )
-    requires { ⌜ Aimed (flagged wide big) (windowOf (flagged wide big)) step all room (now s) start (now image) ⌝ }
+    requires { ⌜ Aimed (flagged wide big) (windowOf (flagged wide big)) base (now rows) all room (now s) start (now image) ⌝ }
     ensures { λ _. ⌜ Patched (flagged wide big) (now (s .entry)) base start (now (image .entry)) (now (image .exit)) ⌝ }
 {
     let k = place::chosen(wide, big);
-    patch(k, k.window() as u64, step, all, room, s, base, start, image);
+    patch(
+        k,
+        k.window() as u64,
+        rows,
+        dense,
+        all,
+        room,
+        s,
+        base,
+        start,
+        image,
+    );
 }
 
 fn patch_class(k: Class, s: &[u8], base: u64, start: u64, image: &mut [u8])
     requires { ⌜ Targeted k (now s) start (now image) ⌝ }
     ensures { λ _. ⌜ Patched k (now (s .entry)) base start (now (image .entry)) (now (image .exit)) ⌝ }
 {
-    let step = place::step(k, image.len());
+    let mut rows: [u8; 64] = [0; 64];
+    fill_rows(k, &mut rows, base);
+    let dense = k.largest() / 65536;
     let all = place::full_bits(k);
     let room = windows(k, image.len());
     let size = k.size;
     let order = k.order;
     match order {
         ByteOrder::Little => match size {
-            Size::Four => patch_by(false, false, step, all, room, s, base, start, image),
-            Size::Eight => patch_by(true, false, step, all, room, s, base, start, image),
+            Size::Four => patch_by(false, false, &rows, dense, all, room, s, base, start, image),
+            Size::Eight => patch_by(true, false, &rows, dense, all, room, s, base, start, image),
         },
         ByteOrder::Big => match size {
-            Size::Four => patch_by(false, true, step, all, room, s, base, start, image),
-            Size::Eight => patch_by(true, true, step, all, room, s, base, start, image),
+            Size::Four => patch_by(false, true, &rows, dense, all, room, s, base, start, image),
+            Size::Eight => patch_by(true, true, &rows, dense, all, room, s, base, start, image),
         },
     }
 }

@@ -4,13 +4,14 @@ use Rattle.relr_apply.proofs.patch_marks.Tie as tie
 use Rattle.relr_apply.proofs.patch_marks.Reads as reads
 use Rattle.relr_apply.proofs.patch_marks.Lts as lts
 use Rattle.relr_apply.proofs.add_at.Reads as add-at-reads
+use Rattle.std.proofs.num.wrapping_add_u64.Reads as wrapping-add-u64-reads
 use Rattle.word.proofs.Class.bytes.Reads as bytes-reads
 
 abbrev Inv-loop : tie.InvT-loop
-Inv-loop k image₀ base start anchor set bits₀ image bits = Patching k image₀ base start anchor set image bits
+Inv-loop k image₀ base first set bits₀ image bits = Patching k image₀ base first set image bits
 
 abbrev μ-loop : tie.MeasureT-loop
-μ-loop k image₀ base start anchor set bits₀ image bits = bits
+μ-loop k image₀ base first set bits₀ image bits = bits
 
 loop-holds : tie.Need-loop-holds Inv-loop μ-loop
 loop-holds c = search patchings
@@ -21,17 +22,14 @@ cast-zeros c = search patchings
 bytes-requires : tie.Need-bytes-requires Inv-loop μ-loop
 bytes-requires c κs = search patchings
 
-cast-x : tie.Need-cast-x Inv-loop μ-loop
-cast-x c = search patchings
+cast-wrapping-add-u64 : tie.Need-cast-wrapping-add-u64 Inv-loop μ-loop
+cast-wrapping-add-u64 c = search patchings
 
-mul-x : tie.Need-mul-x Inv-loop μ-loop
-mul-x c = search patchings
+mul-wrapping-add-u64 : tie.Need-mul-wrapping-add-u64 Inv-loop μ-loop
+mul-wrapping-add-u64 c = search patchings
 
-add-x : tie.Need-add-x Inv-loop μ-loop
-add-x c = search patchings
-
-sub-add-at : tie.Need-sub-add-at Inv-loop μ-loop
-sub-add-at c = search patchings
+wrapping-add-u64-requires : tie.Need-wrapping-add-u64-requires Inv-loop μ-loop
+wrapping-add-u64-requires c κs = search patchings
 
 add-at-requires : tie.Need-add-at-requires Inv-loop μ-loop
 add-at-requires c κs = search patchings
@@ -60,10 +58,9 @@ patch-marks-spec =
     loop-holds
     cast-zeros
     bytes-requires
-    cast-x
-    mul-x
-    add-x
-    sub-add-at
+    cast-wrapping-add-u64
+    mul-wrapping-add-u64
+    wrapping-add-u64-requires
     add-at-requires
     sub-bits
     loop-less

@@ -5,13 +5,14 @@ use Rattle.relr_apply.proofs.patch_run.Tie as tie
 use Rattle.relr_apply.proofs.patch_run.Reads as reads
 use Rattle.relr_apply.proofs.patch_run.Lts as lts
 use Rattle.relr_apply.proofs.add_at.Reads as add-at-reads
+use Rattle.std.proofs.num.wrapping_add_u64.Reads as wrapping-add-u64-reads
 use Rattle.word.proofs.Class.bytes.Reads as bytes-reads
 
 abbrev Inv-loop : tie.InvT-loop
-Inv-loop k n image₀ base start anchor j₀ image j = Running k image₀ base start anchor n image j
+Inv-loop k n image₀ base first j₀ image j = Running k image₀ base first n image j
 
 abbrev μ-loop : tie.MeasureT-loop
-μ-loop k n image₀ base start anchor j₀ image j = n - j
+μ-loop k n image₀ base first j₀ image j = n - j
 
 loop-holds : tie.Need-loop-holds Inv-loop μ-loop
 loop-holds c = search runnings
@@ -19,17 +20,14 @@ loop-holds c = search runnings
 bytes-requires : tie.Need-bytes-requires Inv-loop μ-loop
 bytes-requires c κs = search runnings
 
-cast-x : tie.Need-cast-x Inv-loop μ-loop
-cast-x c = search runnings
+cast-wrapping-add-u64 : tie.Need-cast-wrapping-add-u64 Inv-loop μ-loop
+cast-wrapping-add-u64 c = search runnings
 
-mul-x : tie.Need-mul-x Inv-loop μ-loop
-mul-x c = search runnings
+mul-wrapping-add-u64 : tie.Need-mul-wrapping-add-u64 Inv-loop μ-loop
+mul-wrapping-add-u64 c = search runnings
 
-add-x : tie.Need-add-x Inv-loop μ-loop
-add-x c = search runnings
-
-sub-add-at : tie.Need-sub-add-at Inv-loop μ-loop
-sub-add-at c = search runnings
+wrapping-add-u64-requires : tie.Need-wrapping-add-u64-requires Inv-loop μ-loop
+wrapping-add-u64-requires c κs = search runnings
 
 add-at-requires : tie.Need-add-at-requires Inv-loop μ-loop
 add-at-requires c κs = search runnings
@@ -57,10 +55,9 @@ patch-run-spec =
     μ-loop
     loop-holds
     bytes-requires
-    cast-x
-    mul-x
-    add-x
-    sub-add-at
+    cast-wrapping-add-u64
+    mul-wrapping-add-u64
+    wrapping-add-u64-requires
     add-at-requires
     add-j
     loop-less

@@ -1,44 +1,65 @@
+use borrow.Author.Needs.{needs}
+use mathlib.Core.Logic.{⊎-elim}
 use Prim.Native.Nat.{_-_}
-use Rattle.relr_apply.proofs.PassNeeds.{Sweeping, sweepings}
+use Rattle.relr_apply.proofs.RowNeeds.{Rolling, rollings, roll-on-last, roll-on-row}
 use Rattle.relr_apply.proofs.patch_window.Statement.{statement}
 use Rattle.relr_apply.proofs.patch_window.Tie as tie
 use Rattle.relr_apply.proofs.patch_window.Reads as reads
 use Rattle.relr_apply.proofs.patch_window.Lts as lts
-use Rattle.relr_apply.proofs.add_times.Reads as add-times-reads
-use Rattle.std.proofs.num.wrapping_sub_u64.Reads as wrapping-sub-u64-reads
+use Rattle.relr_apply.proofs.add_row.Reads as add-row-reads
+use Rattle.word.proofs.Class.bytes.Reads as bytes-reads
 
 abbrev Inv-loop : tie.InvT-loop
-Inv-loop k window step image₀ base start anchor set at bits₀ x₀ j₀ image bits x j = Sweeping k image₀ base start anchor set at image bits x j
+Inv-loop k window rows image₀ base first set c bits₀ x₀ j₀ image bits x j = Rolling k image₀ base first set window image bits x j
 
 abbrev μ-loop : tie.MeasureT-loop
-μ-loop k window step image₀ base start anchor set at bits₀ x₀ j₀ image bits x j = window - j
+μ-loop k window rows image₀ base first set c bits₀ x₀ j₀ image bits x j = window - j
 
-wrapping-sub-u64-requires : tie.Need-wrapping-sub-u64-requires Inv-loop μ-loop
-wrapping-sub-u64-requires c κs = search sweepings
+bytes-requires : tie.Need-bytes-requires Inv-loop μ-loop
+bytes-requires c κs = search rollings
+
+cast-c : tie.Need-cast-c Inv-loop μ-loop
+cast-c c = search rollings
 
 loop-holds : tie.Need-loop-holds Inv-loop μ-loop
-loop-holds c = search sweepings
+loop-holds c = search rollings
 
-add-times-requires : tie.Need-add-times-requires Inv-loop μ-loop
-add-times-requires c κs = search sweepings
+mul-n : tie.Need-mul-n Inv-loop μ-loop
+mul-n c = search rollings
+
+sub-if1 : tie.Need-sub-if1 Inv-loop μ-loop
+sub-if1 c = search rollings
+
+add-row-requires : tie.Need-add-row-requires Inv-loop μ-loop
+add-row-requires c κs = ⊎-elim (λ w. search rollings) (λ w. search rollings) (c .before .if1 .came)
+
+mul-x : tie.Need-mul-x Inv-loop μ-loop
+mul-x c = search rollings
 
 add-x : tie.Need-add-x Inv-loop μ-loop
-add-x c = search sweepings
+add-x c = search rollings
 
 add-j : tie.Need-add-j Inv-loop μ-loop
-add-j c = search sweepings
+add-j c = search rollings
 
 loop-less : tie.Need-loop-less Inv-loop μ-loop
-loop-less c = search sweepings
+loop-less c = search rollings
 
 loop-again : tie.Need-loop-again Inv-loop μ-loop
-loop-again c = search sweepings
+loop-again c =
+    let row = c .before .before .add-row .ensures in
+    let g = c .before .before .before .before .before .before .loop .inv in
+    let l = c .before .before .before .before .before .loop-test .taken in
+    let ce = c .before .before .before .before .before .before .before .bytes .ensures in
+    let m = c .before .before .before .before .before .before .before .before .before .before .pre in
+    ⊎-elim (λ w. roll-on-last row (search needs) (search needs) g l ce m (search needs)) (λ w. roll-on-row row (search needs) (search needs) g l ce m (search needs))
+    (c .before .before .before .before .if1 .came)
 
 same-length : tie.Need-same-length Inv-loop μ-loop
-same-length c = search sweepings
+same-length c = search rollings
 
 returns : tie.Need-returns Inv-loop μ-loop
-returns c = search sweepings
+returns c = search rollings
 
 pub patch-window-spec : {M : Type 1} → statement M
 patch-window-spec =
@@ -46,9 +67,13 @@ patch-window-spec =
     (tie.spec
     Inv-loop
     μ-loop
-    wrapping-sub-u64-requires
+    bytes-requires
+    cast-c
     loop-holds
-    add-times-requires
+    mul-n
+    sub-if1
+    add-row-requires
+    mul-x
     add-x
     add-j
     loop-less
