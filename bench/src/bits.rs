@@ -6,8 +6,8 @@ use std::num::NonZero;
 pub trait Bits {
     /// Whether it goes by trailing zeros.
     const ZEROS: bool;
-    /// Whether a bitmap with few clear bits is gone through word by word, without a branch.
-    const WHOLE: bool = false;
+    /// Whether full bitmaps and those with many bits go other ways, where a table is applied.
+    const BEST: bool = false;
 
     /// The places of the one bits, lowest first.
     fn ones(set: u64) -> impl Iterator<Item = u64>;
@@ -39,12 +39,12 @@ impl Bits for TrailingZeros {
     }
 }
 
-/// The same, but for bitmaps with few clear bits.
+/// By trailing zeros, but where another way is faster.
 pub struct BestSteps;
 
 impl Bits for BestSteps {
     const ZEROS: bool = true;
-    const WHOLE: bool = true;
+    const BEST: bool = true;
 
     fn ones(set: u64) -> impl Iterator<Item = u64> {
         TrailingZeros::ones(set)

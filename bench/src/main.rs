@@ -42,12 +42,14 @@ fn print_ratios(results: &[Result]) {
     println!("|---|--:|--:|--:|--:|--:|");
     for (name, sizes) in results {
         let times = &at(sizes, FIRST).unwrap_or(&sizes[0]).programs;
-        for (way, [rust, c]) in WAYS.iter().zip(times[1..].as_chunks().0) {
+        for (way, others) in WAYS.iter().zip(times[1..].chunks(2)) {
             let ours = &times[0];
             let way = if times.len() > 3 { format!(", {way}") } else { String::new() };
-            print!("| {name}{way} | {:.2} ", ours.best);
-            print!("| {:.2} | {:.2} ", ours.best / rust.best, ours.median / rust.median);
-            println!("| {:.2} | {:.2} |", ours.best / c.best, ours.median / c.median);
+            print!("| {name}{way} | {:.2} |", ours.best);
+            for other in others {
+                print!(" {:.2} | {:.2} |", ours.best / other.best, ours.median / other.median);
+            }
+            println!("{}", if others.len() < 2 { " | |" } else { "" });
         }
     }
 }

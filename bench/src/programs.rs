@@ -15,20 +15,24 @@ pub type Program = fn(&mut Case) -> Result<usize, Refusal>;
 /// The ways through bitmaps, by name.
 pub const WAYS: [&str; 3] = ["bit by bit", "by trailing zeros", "by the best steps"];
 
-/// The library, then Rust and C in each way.
-const PROGRAMS: [Program; 7] = [
+/// The library, then Rust and C in each way, but that C has no best steps.
+const PROGRAMS: [Program; 6] = [
     library,
     rust::<BitByBit>,
     c::<BitByBit>,
     rust::<TrailingZeros>,
     c::<TrailingZeros>,
     rust::<BestSteps>,
-    c::<BestSteps>,
 ];
 
-/// The programs that make a call: only reading and applying RELR go through bitmaps.
+/// The programs that make a call: only reading and applying RELR go through bitmaps, and only
+/// applying has best steps.
 pub(crate) fn programs(call: u8) -> &'static [Program] {
-    if matches!(call, RELR_READ | RELR_APPLY) { &PROGRAMS } else { &PROGRAMS[..3] }
+    match call {
+        RELR_APPLY => &PROGRAMS,
+        RELR_READ => &PROGRAMS[..5],
+        _ => &PROGRAMS[..3],
+    }
 }
 
 /// Makes the call of a case by the functions of a module, in its way through bitmaps.

@@ -61,7 +61,7 @@ fn apply<W: Word, B: Bits>(table: &[u8], base: u64, start: u64, image: &mut [u8]
     if let Some(index) = found.outside {
         return refuse(OUTSIDE, index);
     }
-    let add = |word: &mut [u8]| W::store(W::load(word).wrapping_add(base), word);
+    let rows = rows::<W>(base);
     decode::<W>(table, start, |first, set| {
         let first = first as usize;
         // One test for a window, not one for each bit; an address is one bit.
@@ -69,29 +69,53 @@ fn apply<W: Word, B: Bits>(table: &[u8], base: u64, start: u64, image: &mut [u8]
             && set != 1
             && let Some(window) = W::window(image, first)
         {
-            patch::<W, B>(window, base, set);
+            patch::<W, B>(window, base, &rows, set);
         } else {
             B::ones(set).for_each(|k| {
                 let at = first + k as usize * W::BYTES;
-                add(&mut image[at..at + W::BYTES]);
+                add::<W>(&mut image[at..at + W::BYTES], base);
             });
         }
     });
     Ok(found.count)
 }
 
-/// Adds the base to the words of a window that are marked.
-fn patch<W: Word, B: Bits>(window: &mut [W::Bytes; 64], base: u64, set: u64) {
-    let add = |word: &mut W::Bytes, addend: u64| {
-        W::store(W::load(word.as_mut()).wrapping_add(addend), word.as_mut())
-    };
-    let words = &mut window[..W::WINDOW as usize];
-    if B::WHOLE && set == W::TOP >> 1 {
-        words.iter_mut().for_each(|word| add(word, base));
-    } else if B::WHOLE && set.count_ones() + 24 >= W::WINDOW as u32 {
-        words.iter_mut().enumerate().for_each(|(k, word)| add(word, (set >> k & 1).wrapping_neg() & base));
+/// Adds to a word.
+fn add<W: Word>(word: &mut [u8], addend: u64) {
+    W::store(W::load(word).wrapping_add(addend), word);
+}
+
+/// For each two bits what is added to two words: the base, or 0.
+type Rows<W> = [[<W as Word>::Bytes; 2]; 4];
+
+/// The rows of a base.
+fn rows<W: Word>(base: u64) -> Rows<W> {
+    let mut rows = Rows::<W>::default();
+    for (bits, row) in rows.iter_mut().enumerate() {
+        for (k, word) in row.iter_mut().enumerate() {
+            W::Low::store(base * (bits as u64 >> k & 1), word.as_mut());
+        }
+    }
+    rows
+}
+
+/// Adds the base to the words of a window that are marked. Where two neighbours of the upper bits are
+/// set, most often many are.
+fn patch<W: Word, B: Bits>(window: &mut [W::Bytes; 64], base: u64, rows: &Rows<W>, set: u64) {
+    let last = W::WINDOW as usize - 1;
+    if B::BEST && set == W::TOP >> 1 {
+        window[..=last].iter_mut().for_each(|word| add::<W>(word.as_mut(), base));
+    } else if B::BEST && set & (set >> 1) > W::TOP >> 17 {
+        let mut rest = set;
+        for words in &mut window.as_chunks_mut::<2>().0[..last / 2] {
+            let row = &rows[rest as usize % 4];
+            add::<W>(words[0].as_mut(), W::Low::load(row[0].as_ref()));
+            add::<W>(words[1].as_mut(), W::Low::load(row[1].as_ref()));
+            rest >>= 2;
+        }
+        add::<W>(window[last].as_mut(), W::Low::load(rows[rest as usize % 4][0].as_ref()));
     } else {
-        B::ones(set).for_each(|k| add(&mut words[k as usize], base));
+        B::ones(set).for_each(|k| add::<W>(window[k as usize].as_mut(), base));
     }
 }
 

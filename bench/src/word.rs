@@ -5,7 +5,9 @@ use std::marker::PhantomData;
 /// What a class and an order give their tables.
 pub trait Word {
     /// A word's bytes.
-    type Bytes: AsMut<[u8]>;
+    type Bytes: AsRef<[u8]> + AsMut<[u8]> + Copy + Default;
+    /// The words with the low byte first.
+    type Low: Word<Bytes = Self::Bytes>;
     /// A word's size.
     const BYTES: usize;
     /// A word's width.
@@ -45,6 +47,7 @@ macro_rules! word {
     ($unsigned:ty, $signed:ty) => {
         impl<const BIG: bool> Word for Words<$unsigned, BIG> {
             type Bytes = [u8; size_of::<$unsigned>()];
+            type Low = Little<$unsigned>;
 
             const BYTES: usize = size_of::<$unsigned>();
 

@@ -1,19 +1,20 @@
 //! The Rust program on the reference's corpus, and every program on the rows.
 
-use bench::bits::{BitByBit, TrailingZeros};
+use bench::bits::{BestSteps, BitByBit, TrailingZeros};
 use bench::measure::checked;
 use bench::programs::{Program, reference, rust};
 use bench::{limits, rows};
 use reference::corpus::{all, long};
 
-/// The Rust program, in both its ways through bitmaps, answers and leaves every case as the
+/// The Rust program, in all its ways through bitmaps, answers and leaves every case as the
 /// reference does. The corpus has each case of RELR in both byte orders.
 #[test]
 fn rust_on_the_corpus() {
     for named in all().into_iter().chain(long::cases()) {
         let mut want = named.case.clone();
         let answer = reference(&mut want);
-        for program in [rust::<BitByBit>, rust::<TrailingZeros>] as [Program; 2] {
+        for program in [rust::<BitByBit>, rust::<TrailingZeros>, rust::<BestSteps>] as [Program; 3]
+        {
             let mut got = named.case.clone();
             assert_eq!(program(&mut got), answer, "{}", named.name);
             assert!(got == want, "{}: buffers differ", named.name);

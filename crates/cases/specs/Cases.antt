@@ -51,8 +51,8 @@ Packed z offsets words order =
     (decode k (bytesOfWords k words) ≡ accepted offsets) × (encode k offsets ≡ accepted (bytesOfWords k words))
 
 -- in an order, a table that is applied has that outcome, and makes of the one image the other
-pub Moved : Size → List ℕ → ℕ → ℕ → List ℕ → Outcome (List ℕ) → List ℕ → ByteOrder → Type 0
-Moved z words base start old o new order =
+pub PatchedTo : Size → List ℕ → ℕ → ℕ → List ℕ → Outcome (List ℕ) → List ℕ → ByteOrder → Type 0
+PatchedTo z words base start old o new order =
     let k = classIn z order in
     (targets k (bytesOfWords k words) base start (length (bytesOfWords k old)) ≡ o)
     × (imageAfter (Is z) order (bytesOfWords k words) base start (bytesOfWords k old) ≡ bytesOfWords k new)
@@ -68,7 +68,7 @@ Holds (unsignedNumber width bytes v) = (readUnsigned width bytes 0 ≡ UValue v 
 Holds (signedNumber width bytes z) = (readSigned width bytes 0 ≡ SValue z (length bytes)) × (shortSigned z ≡ bytes)
 Holds (relrTable z offsets words) = InBoth (Packed z offsets words)
 Holds (relrLaid z words low high) = (bytesOfWords (classIn z Little) words ≡ low) × (bytesOfWords (classIn z Big) words ≡ high)
-Holds (relrApplied z words base start old o new) = InBoth (Moved z words base start old o new)
+Holds (relrApplied z words base start old o new) = InBoth (PatchedTo z words base start old o new)
 Holds (relrOther k bytes o) = decode k bytes ≡ o
 Holds (apr1Table bytes l) = (apr1.decode bytes ≡ accepted l) × (apr1.encode l ≡ accepted bytes)
 Holds (apa1Table bytes l) = (apa1.decode bytes ≡ accepted l) × (apa1.encode l ≡ accepted bytes)
@@ -133,7 +133,7 @@ worked =
 
 -- each of them holds
 pub claim : Each Holds worked
-unfolding Holds Packed Moved worked inputLimit listLimit readUnsigned readSigned raw signed short shortBy before after
+unfolding Holds Packed PatchedTo worked inputLimit listLimit readUnsigned readSigned raw signed short shortBy before after
     valueOf bytesIn arranged wordAt withWord firstWords wordsOf bytesOfWords
     relr.marked relr.fit relr.anchored relr.read relr.falls relr.bit relr.word relr.first relr.write relr.table
     parse decode checked build encode leading contained targets indexes added patched changed imageAfter

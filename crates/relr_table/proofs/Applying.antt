@@ -4,7 +4,7 @@ use mathlib.Core.Bool.{Bool, true, false, cond, _&&_}
 use mathlib.Core.List.{List, [], _∷_, _++_}
 use mathlib.Core.Logic.{_⊎_, inl, inr}
 use mathlib.Core.Path.{_≡_, refl, _∙_}
-use Prim.Native.Nat.{ℕ, _+_, _-_, _%_, _^_, _≤_, _<_}
+use Prim.Native.Nat.{ℕ, _+_, _-_, _≤_, _<_}
 use native.Mathlib.Omega.{arith}
 use lib.Dec.{leb}
 use lib.ListN.{length, getD}
@@ -12,8 +12,7 @@ use borrow.Author.Tests.{leb-true, le-leb}
 use Rattle.answer.specs.declared.Refusal.the-variants as why
 use Rattle.answer.specs.Outcome.{accepted, refused}
 use Rattle.word.specs.declared.Class.{Class}
-use Rattle.word.specs.Class.{bytesOf, bitsOf}
-use Rattle.word.specs.Word.{wordAt}
+use Rattle.word.specs.Class.{bytesOf}
 use Rattle.word.specs.Word.Laws.{store-length, store-before, store-after}
 use Rattle.relr_table.specs.Table.{decode, inside, Inside, All, contained, above, targets, indexes, added, patched, Apart}
 use Rattle.relr_table.proofs.Leading.{contained-accepted}
@@ -22,7 +21,7 @@ use Rattle.relr_table.proofs.Marked.{all-map}
 -- ---- additions, one after another
 pub added-length : (k : Class) (base : ℕ) (image : List ℕ) (x : ℕ) → length (added k base image x) ≡ length image
 unfolding added
-added-length k base image x = store-length k image x ((wordAt k image x + base) % 2 ^ bitsOf k)
+added-length k base image x = store-length k image x _
 
 pub patched-length : (k : Class) (base : ℕ) (l image : List ℕ) → length (patched k base l image) ≡ length image
 unfolding patched
@@ -52,8 +51,8 @@ module _ (k : Class) (base start : ℕ) where
 module _ (k : Class) (base start i : ℕ) where
   added-apart : (image : List ℕ) (x : ℕ) → Inside k start (length image) x → (start + i < x) ⊎ (x + bytesOf k ≤ start + i) → getD (added k base image (x - start)) i 0 ≡ getD image i 0
   unfolding added
-  added-apart image x (low, room) (inl h) = store-before k image (x - start) ((wordAt k image (x - start) + base) % 2 ^ bitsOf k) room i (omega arith)
-  added-apart image x (low, room) (inr h) = store-after k image (x - start) ((wordAt k image (x - start) + base) % 2 ^ bitsOf k) room i (omega arith)
+  added-apart image x (low, room) (inl h) = store-before k image (x - start) _ room i (omega arith)
+  added-apart image x (low, room) (inr h) = store-after k image (x - start) _ room i (omega arith)
 
   pub patched-apart : (l image : List ℕ) → All (Inside k start (length image)) l → Apart k (start + i) l → getD (patched k base (indexes start l) image) i 0 ≡ getD image i 0
   unfolding patched indexes
