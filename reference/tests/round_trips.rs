@@ -268,3 +268,38 @@ fn mapped(
     }
     Ok(map.into_values().collect())
 }
+
+/// One base and then another does as their sum does at once, where no two words overlap in part, and
+/// where some do it may not.
+#[test]
+fn move_a_module() {
+    let mut rng = Rng::new(17);
+    let mut differ = 0;
+    for _ in 0..ROUNDS {
+        for (class, order) in FORMS {
+            let table = table_from(&mut rng, class, order, 0x1000);
+            let (_, list) = list_of(class, order, &table);
+            let word = class as u64;
+            let whole = |x: &u64| list.iter().all(|y| x == y || x.abs_diff(*y) >= word);
+            let same = moves(&mut rng, class, order, &table);
+            assert!(same || !list.iter().all(whole), "{list:x?}");
+            differ += !same as usize;
+        }
+    }
+    assert!(differ > ROUNDS / 10, "{differ}");
+}
+
+/// Whether two bases, one after the other, leave what their sum leaves.
+fn moves(rng: &mut Rng, class: u32, order: ByteOrder, table: &[u8]) -> bool {
+    let top = u64::MAX >> (64 - 8 * class);
+    let [a, b] = [rng.draw() & top, rng.draw() & top];
+    let old: Vec<u8> = (0..200).map(|_| rng.draw() as u8).collect();
+    let [mut twice, mut once] = [old.clone(), old];
+    let mut apply = |base, image: &mut Vec<u8>| {
+        assert_eq!(relr_apply(class, order, table, base, 0x1000, image).number, 0);
+    };
+    apply(a, &mut twice);
+    apply(b, &mut twice);
+    apply(a.wrapping_add(b) & top, &mut once);
+    twice == once
+}

@@ -189,6 +189,46 @@ fn carries() {
     }
 }
 
+/// §14: zeros after one base, after another on top of it, and after their sum at once.
+fn moved(
+    class: u32,
+    order: ByteOrder,
+    words: &[u64],
+    bases: [u64; 2],
+    length: usize,
+) -> [Vec<u8>; 3] {
+    let table = bytes(class, order, words);
+    let apply = |base, image: &[u8]| {
+        let mut image = image.to_vec();
+        assert_eq!(relr_apply(class, order, &table, base, 0, &mut image).number, 0);
+        image
+    };
+    let old = vec![0; length];
+    let [a, b] = bases;
+    let sum = a.wrapping_add(b) & (u64::MAX >> (64 - 8 * class));
+    let first = apply(a, &old);
+    let second = apply(b, &first);
+    [first, second, apply(sum, &old)]
+}
+
+/// "Give the overlap case where it fails": entries less than a word apart, and entries that repeat an
+/// offset, where it holds.
+#[test]
+fn moving_words_that_overlap() {
+    let four = moved(4, Little, &[0, 2], [0xFFFF_FFFF, 2], 6);
+    let want = [[0xFF, 0xFF, 0xFE, 0xFF, 0, 0], [1, 0, 1, 0, 1, 0], [1, 0, 1, 0, 0, 0]];
+    assert_eq!(four, want);
+    let eight = moved(8, Big, &[0, 2], [u64::MAX, (1 << 63) + 1], 10);
+    let want = [
+        [0xFF, 0xFF, 0xFF, 0xFF, 0xFF, 0xFF, 0xFF, 0xFE, 0xFF, 0xFF],
+        [0x7F, 0xFF, 0x80, 0, 0, 0, 0, 0, 0, 0],
+        [0x80, 0, 0x80, 0, 0, 0, 0, 0, 0, 0],
+    ];
+    assert_eq!(eight, want);
+    let repeated = moved(4, Little, &[0, 0], [(1 << 31) + 1, (1 << 31) + 2], 4);
+    assert_eq!(repeated, [[2, 0, 0, 0], [6, 0, 0, 0], [6, 0, 0, 0]]);
+}
+
 /// One table told to be in one order and in the other.
 #[test]
 fn the_other_order() {
