@@ -240,6 +240,11 @@ struct reloc_answer reloc_relr_write(uint32_t class_, bool big, const uint64_t *
  * Changes the words at those offsets; other words of the image may be written with
  * the value that they have. count: additions made.
  *
+ * A module that moves: where no two words of the table overlap in part, to apply
+ * base a and then base b leaves what their sum modulo 2^W leaves at once. So an
+ * image that was applied at a is applied at b by the base b - a modulo 2^W, in
+ * class 4 (uint32_t)(b - a).
+ *
  * Refuses: CLASS, BASE, LIMIT, MISSING (not whole words), { ORDER, SPACE },
  * OUTSIDE. OUTSIDE: a word does not lie inside the image; place is the index of the
  * first such offset, whichever end it passes. Every offset is tried against the

@@ -61,7 +61,7 @@ fn apply<W: Word, B: Bits>(table: &[u8], base: u64, start: u64, image: &mut [u8]
     if let Some(index) = found.outside {
         return refuse(OUTSIDE, index);
     }
-    let rows = rows::<W>(base);
+    let strips = strips::<W>(base);
     decode::<W>(table, start, |first, set| {
         let first = first as usize;
         // One test for a window, not one for each bit; an address is one bit.
@@ -69,7 +69,7 @@ fn apply<W: Word, B: Bits>(table: &[u8], base: u64, start: u64, image: &mut [u8]
             && set != 1
             && let Some(window) = W::window(image, first)
         {
-            patch::<W, B>(window, base, &rows, set);
+            patch::<W, B>(window, base, &strips, set);
         } else {
             B::ones(set).for_each(|k| {
                 let at = first + k as usize * W::BYTES;
@@ -86,34 +86,34 @@ fn add<W: Word>(word: &mut [u8], addend: u64) {
 }
 
 /// For each two bits what is added to two words: the base, or 0.
-type Rows<W> = [[<W as Word>::Bytes; 2]; 4];
+type Strips<W> = [[<W as Word>::Bytes; 2]; 4];
 
-/// The rows of a base.
-fn rows<W: Word>(base: u64) -> Rows<W> {
-    let mut rows = Rows::<W>::default();
-    for (bits, row) in rows.iter_mut().enumerate() {
-        for (k, word) in row.iter_mut().enumerate() {
+/// The strips of a base.
+fn strips<W: Word>(base: u64) -> Strips<W> {
+    let mut strips = Strips::<W>::default();
+    for (bits, strip) in strips.iter_mut().enumerate() {
+        for (k, word) in strip.iter_mut().enumerate() {
             W::Low::store(base * (bits as u64 >> k & 1), word.as_mut());
         }
     }
-    rows
+    strips
 }
 
 /// Adds the base to the words of a window that are marked. Where two neighbours of the upper bits are
 /// set, most often many are.
-fn patch<W: Word, B: Bits>(window: &mut [W::Bytes; 64], base: u64, rows: &Rows<W>, set: u64) {
+fn patch<W: Word, B: Bits>(window: &mut [W::Bytes; 64], base: u64, strips: &Strips<W>, set: u64) {
     let last = W::WINDOW as usize - 1;
     if B::BEST && set == W::TOP >> 1 {
         window[..=last].iter_mut().for_each(|word| add::<W>(word.as_mut(), base));
     } else if B::BEST && set & (set >> 1) > W::TOP >> 17 {
         let mut rest = set;
         for words in &mut window.as_chunks_mut::<2>().0[..last / 2] {
-            let row = &rows[rest as usize % 4];
-            add::<W>(words[0].as_mut(), W::Low::load(row[0].as_ref()));
-            add::<W>(words[1].as_mut(), W::Low::load(row[1].as_ref()));
+            let strip = &strips[rest as usize % 4];
+            add::<W>(words[0].as_mut(), W::Low::load(strip[0].as_ref()));
+            add::<W>(words[1].as_mut(), W::Low::load(strip[1].as_ref()));
             rest >>= 2;
         }
-        add::<W>(window[last].as_mut(), W::Low::load(rows[rest as usize % 4][0].as_ref()));
+        add::<W>(window[last].as_mut(), W::Low::load(strips[rest as usize % 4][0].as_ref()));
     } else {
         B::ones(set).for_each(|k| add::<W>(window[k as usize].as_mut(), base));
     }

@@ -164,6 +164,25 @@ pub fn relr_write(
 /// assert_eq!(relr_apply(8, ByteOrder::Big, &table, 5, 0x1000, &mut image), Ok(2));
 /// assert_eq!((image[7], image[15]), (5, 5));
 /// ```
+///
+/// A module that moves: where no two words of the table overlap in part, to apply
+/// one base and then another leaves what their sum modulo 2^W leaves at once. So an
+/// image that was applied at `a` is applied at `b` by the base
+/// `b.wrapping_sub(a)`, in class 4 reduced to 32 bits.
+///
+/// ```
+/// use reloc::{ByteOrder, relr_apply};
+///
+/// let table = [0u64.to_le_bytes(), 8u64.to_le_bytes()].concat();
+/// let (mut moved, mut there) = ([7; 16], [7; 16]);
+/// let (a, b) = (0x10000, 0x4000u64);
+/// for (base, image) in [(a, &mut moved), (b, &mut there)] {
+///     assert_eq!(relr_apply(8, ByteOrder::Little, &table, base, 0, image), Ok(2));
+/// }
+/// let base = b.wrapping_sub(a);
+/// assert_eq!(relr_apply(8, ByteOrder::Little, &table, base, 0, &mut moved), Ok(2));
+/// assert_eq!(moved, there);
+/// ```
 pub fn relr_apply(
     class: u32,
     order: ByteOrder,

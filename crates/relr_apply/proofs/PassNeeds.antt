@@ -4,14 +4,13 @@ use mathlib.Core.Bool.{Bool, true, false, cond}
 use mathlib.Core.List.{List, [], _∷_, _++_}
 use mathlib.Core.Path.{_≡_, refl, sym, ap, subst, _∙_}
 use Prim.Native.Nat.{ℕ, zero, suc, _+_, _-_, _*_, _/_, _%_, _^_, _≤_, _<_}
-use native.Mathlib.Nat.{mod-eq-of-lt, mul-le-mul-right}
+use native.Mathlib.Nat.{mul-le-mul-right}
 use native.Mathlib.Omega.{arith}
 use native.Mathlib.Decide.{decLe}
 use lib.Dec.{leb, ltb, eqb}
 use lib.Bits.{bitAnd}
 use lib.Count.{trailingZeros}
 use lib.ListN.{length}
-use lib.Pow.{shr-shr}
 use mir.Syntax.{w64}
 use mir.Val.{Fits}
 use borrow.Author.Needs.{needs}
@@ -36,7 +35,7 @@ use Rattle.relr_apply.specs.Inner.{wrapped, spotsOf, Patchable, Runs, Fi
 use Rattle.relr_table.proofs.Marked.{all-left, all-right, marked-none}
 use Rattle.relr_table.proofs.PlaceNeeds.{one-mark}
 use Rattle.relr_table.proofs.Passed.{step-fits, step-less, space-most}
-use Rattle.relr_table.proofs.SetBits.{Next, Left, left-begin, left-end, left-head, left-next, left-fits, next-zeros, next-full, full-none, Through, through-begin, through-end, through-clear, through-head, through-set, far-small, run-bit, run-less, zeros-fit, zeros-far, zeros-less}
+use Rattle.relr_table.proofs.SetBits.{Next, Left, left-begin, left-end, left-head, left-next, next-zeros, next-full, full-none, far-small, run-bit, run-less, zeros-fit, zeros-far, zeros-less}
 use Rattle.relr_table.proofs.Steps.{marked-set, marked-clear}
 use Rattle.relr_table.proofs.Following.{Following, Followed, following-begin, following-load, following-end, follow-address, follow-bitmap}
 use Rattle.relr_table.proofs.Decoding.{decode-good, contained-space}
@@ -216,11 +215,11 @@ module _ (k : Class) (size : ℕ) {d : ℕ} (de : d ≡ windowOf k * bytesOf k) 
 pub ruleset fittings = (windows-none, windows-some, windows-fit, needs)
 
 -- which it is
-module _ {k : Class} {n base : ℕ} {rows : List ℕ} {all room : ℕ} {image : List ℕ} {first set : ℕ} (s : Sized k n base rows all room image first set) where
+module _ {k : Class} {n base : ℕ} {strips : List ℕ} {all room : ℕ} {image : List ℕ} {first set : ℕ} (s : Sized k n base strips all room image first set) where
   pub bitmap-marks : Patchable k image first set
   bitmap-marks = s .patchable
 
-  pub bitmap-spacious : first < room → Spacious k n base rows image first
+  pub bitmap-spacious : first < room → Spacious k n base strips image first
   bitmap-spacious l =
       record {
         locations = s .paced .locations;
@@ -243,8 +242,8 @@ index-of : (p start c : ℕ) → ((p + c) % 2 ^ 64 + start) % 2 ^ 64 ≡ (p + st
 index-of p start c = omega arith
 
 -- from there to the one before the next
-behind-on : (p start c d : ℕ) → ((p + d) % 2 ^ 64 + start + c) % 2 ^ 64 ≡ ((p + start + c) % 2 ^ 64 + d) % 2 ^ 64
-behind-on p start c d = omega arith
+index-on : (p start c d : ℕ) → ((p + d) % 2 ^ 64 + start + c) % 2 ^ 64 ≡ ((p + start + c) % 2 ^ 64 + d) % 2 ^ 64
+index-on p start c d = omega arith
 
 -- the index of the word before *where* is kept
 pub record Working (k : Class) (s old : List ℕ) (base start at behind : ℕ) (image : List ℕ) : Type 0 where
@@ -253,7 +252,7 @@ pub record Working (k : Class) (s old : List ℕ) (base start at behind : ℕ) (
   pub few : length old * 1 < 2 ^ 63
   pub held : image ≡ patched k base (indexes start list) old
 
-module _ {k : Class} {n base : ℕ} {rows : List ℕ} {all room : ℕ} {s old : List ℕ} {start : ℕ} (t : Aimed k n base rows all room s start old) where
+module _ {k : Class} {n base : ℕ} {strips : List ℕ} {all room : ℕ} {s old : List ℕ} {start : ℕ} (t : Aimed k n base strips all room s start old) where
   pub working-begin : length old * 1 < 2 ^ 63 → Working k s old base start 0 0 old
   unfolding patched indexes
   working-begin h = record { list = []; following = following-begin k s _ (t .targeted .good .whole); few = h; held = refl }
@@ -308,18 +307,18 @@ module _ {k : Class} {n base : ℕ} {rows : List ℕ} {all room : ℕ} {s old : 
         spots : (spotsOf k (x / 2) f ≡ indexes start (marksOf k (x / 2) a)) × All (λ y. y % 2 ^ 64 + bytesOf k ≤ length image) (marksOf k (x / 2) f)
         spots = spots-are (bytesOf k) start (length image) fewer (windowOf k) (x / 2) f a (rw (fe, ce) (index-of behind start (bytesOf k))) (in-image word)
 
-        pub working-marks : Sized k n base rows all room image f (x / 2)
+        pub working-marks : Sized k n base strips all room image f (x / 2)
         working-marks = record { patchable = record { in-window = word .in-window; in-image = spots .1 }; paced = rw working-long (t .paced) }
 
         more-of : {new : List ℕ} {d b : ℕ} → d ≡ windowOf k * bytesOf k → b ≡ (behind + d) % 2 ^ 64 → new ≡ patched k base (spotsOf k (x / 2) f) image
             → Working k s old base start (at + c) b new
         more-of {d = d} de be u =
-            more word ce (rw (be, ← de) (behind-on behind start (bytesOf k) d)) (u ∙ ap (λ (l : List ℕ). patched k base l image) (spots .0))
+            more word ce (rw (be, ← de) (index-on behind start (bytesOf k) d)) (u ∙ ap (λ (l : List ℕ). patched k base l image) (spots .0))
 
 -- what the bitmap does comes first, since it shows where it stands
-pub working-more : {k : Class} {n base : ℕ} {rows : List ℕ} {all room : ℕ} {s old : List ℕ} {start at behind : ℕ} {image new : List ℕ} {x c f d b : ℕ}
+pub working-more : {k : Class} {n base : ℕ} {strips : List ℕ} {all room : ℕ} {s old : List ℕ} {start at behind : ℕ} {image new : List ℕ} {x c f d b : ℕ}
     → new ≡ patched k base (spotsOf k (x / 2) f) image → f ≡ (behind + c) % 2 ^ 64 → b ≡ (behind + d) % 2 ^ 64 → x ≡ wordAt k s at
-    → Working k s old base start at behind image → Aimed k n base rows all room s start old → at < length s → x < spaceOf k → (x % 2 ≡ 0 → ⊥) → c ≡ bytesOf k
+    → Working k s old base start at behind image → Aimed k n base strips all room s start old → at < length s → x < spaceOf k → (x % 2 ≡ 0 → ⊥) → c ≡ bytesOf k
     → d ≡ windowOf k * bytesOf k → Working k s old base start (at + c) b new
 working-more u fe be e g t l small odd ce de = more-of t g l e small odd ce fe de be u
 
@@ -332,14 +331,14 @@ pub ruleset workings = (working-begin, working-long, working-end, working-low, w
 -- ---- one class by two names
 module _ {k j : Class} (e : k ≡ j) (s old : List ℕ) (start : ℕ) where
   -- the numbers are said of the class that flags name, and the table's of the class that was handed in
-  pub aimed-to : {base : ℕ} {rows : List ℕ} {all room : ℕ} → Filled k base 8 rows → all ≡ full k → Windows k (length old) room → Targeted k s start old
-      → Aimed j (windowOf j) base rows all room s start old
-  aimed-to {base} {rows} {all} {room} r ae w h =
-      subst (λ (i : Class). Aimed i (windowOf i) base rows all room s start old) e
+  pub aimed-to : {base : ℕ} {strips : List ℕ} {all room : ℕ} → Filled k base 8 strips → all ≡ full k → Windows k (length old) room → Targeted k s start old
+      → Aimed j (windowOf j) base strips all room s start old
+  aimed-to {base} {strips} {all} {room} r ae w h =
+      subst (λ (i : Class). Aimed i (windowOf i) base strips all room s start old) e
       (record { targeted = h; paced = record { locations = refl; addends = r; bits = ae; windows = w } })
 
-  pub aimed-from : {n base : ℕ} {rows : List ℕ} {all room : ℕ} → n ≡ windowOf k → Aimed j (windowOf j) base rows all room s start old → Aimed k n base rows all room s start old
-  aimed-from {n} {base} {rows} {all} {room} ne h = rw ne (subst (λ (i : Class). Aimed i (windowOf i) base rows all room s start old) (sym e) h)
+  pub aimed-from : {n base : ℕ} {strips : List ℕ} {all room : ℕ} → n ≡ windowOf k → Aimed j (windowOf j) base strips all room s start old → Aimed k n base strips all room s start old
+  aimed-from {n} {base} {strips} {all} {room} ne h = rw ne (subst (λ (i : Class). Aimed i (windowOf i) base strips all room s start old) (sym e) h)
 
   module _ (base : ℕ) {new : List ℕ} where
     pub patched-to : Patched k s base start old new → Patched j s base start old new

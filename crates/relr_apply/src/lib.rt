@@ -6,7 +6,7 @@ ghost use Rattle.word.specs.Class.{bytesOf, windowOf};
 ghost use Rattle.relr_table.specs.Table.{above, added, patched};
 ghost use Rattle.relr_table.specs.Contract.{AppliesIn};
 ghost use Rattle.relr_table.specs.Inner.{flagged, full};
-ghost use Rattle.relr_apply.specs.Inner.{spotsOf, Patchable, Runs, lowOf, Rows, Summed, Row, RowAdded, Spacious, Windows, Sized, Targeted, Aimed, Patched, End};
+ghost use Rattle.relr_apply.specs.Inner.{spotsOf, Patchable, Runs, lowOf, Strips, Summed, Strip, StripAdded, Spacious, Windows, Sized, Targeted, Aimed, Patched, End};
 use answer::Answer;
 use answer::Found;
 use answer::Refusal;
@@ -62,41 +62,49 @@ fn low(k: Class) -> Class
     }
 }
 
-// Two bits mark none, one or both of two words. For each two bits the addends of those words stand in a row: the base, or 0.
-fn fill_rows(k: Class, rows: &mut [u8], base: u64)
-    requires { ⌜ length (now rows) ≡ 64 ⌝ }
-    ensures { λ _. ⌜ Rows k base (now (rows .exit)) ⌝ }
+// Two bits mark none, one or both of two words. For each two bits the addends of those words stand in a strip: the base, or 0.
+fn fill_strips(k: Class, strips: &mut [u8], base: u64)
+    requires { ⌜ length (now strips) ≡ 64 ⌝ }
+    ensures { λ _. ⌜ Strips k base (now (strips .exit)) ⌝ }
 {
     let c = k.bytes() as usize;
     let mut e: u64 = 0;
     while e < 8 {
         let addend = word::add(k, 0, base * ((e / 2 >> (e % 2)) % 2));
-        word::store(low(k), &mut *rows, e as usize * c, addend);
+        word::store(low(k), &mut *strips, e as usize * c, addend);
         e += 1;
     }
 }
 
-// Adds to the image's word at x the one of the rows at y.
-fn add_entry(k: Class, image: &mut [u8], x: usize, rows: &[u8], y: usize)
-    requires { ⌜ (x + bytesOf k ≤ length (now image)) × (y + bytesOf k ≤ length (now rows)) ⌝ }
-    ensures { λ _. ⌜ Summed k (now (rows .entry)) y (now (image .entry)) (now (image .exit)) x ⌝ }
+// Adds to the image's word at x the one of the strips at y.
+fn add_entry(k: Class, image: &mut [u8], x: usize, strips: &[u8], y: usize)
+    requires { ⌜ (x + bytesOf k ≤ length (now image)) × (y + bytesOf k ≤ length (now strips)) ⌝ }
+    ensures { λ _. ⌜ Summed k (now (strips .entry)) y (now (image .entry)) (now (image .exit)) x ⌝ }
 {
     let w = word::load(k, image, x);
-    let v = word::load(low(k), rows, y);
+    let v = word::load(low(k), strips, y);
     word::store(k, &mut *image, x, word::add(k, w, v));
 }
 
-// Adds a row to so many bytes of the image, one word or two; the base is what the rows were made of. (Where words are low byte first the compiler adds
+// Adds a strip to so many bytes of the image, one word or two; the base is what the strips were made of. (Where words are low byte first the compiler adds
 // both at once.)
-fn add_row(k: Class, image: &mut [u8], x: usize, rows: &[u8], base: u64, bits: u64, bytes: usize)
-    requires { ⌜ Row k base (now rows) (now image) x bits bytes ⌝ }
-    ensures { λ _. ⌜ RowAdded k base bytes bits x (now (image .entry)) (now (image .exit)) ⌝ }
+fn add_strip(
+    k: Class,
+    image: &mut [u8],
+    x: usize,
+    strips: &[u8],
+    base: u64,
+    bits: u64,
+    bytes: usize,
+)
+    requires { ⌜ Strip k base (now strips) (now image) x bits bytes ⌝ }
+    ensures { λ _. ⌜ StripAdded k base bytes bits x (now (image .entry)) (now (image .exit)) ⌝ }
 {
     let c = k.bytes() as usize;
     let y = bits as usize * (2 * c);
     let mut j: usize = 0;
     while j < bytes {
-        add_entry(k, &mut *image, x + j, rows, y + j);
+        add_entry(k, &mut *image, x + j, strips, y + j);
         j += c;
     }
 }
@@ -105,13 +113,13 @@ fn add_row(k: Class, image: &mut [u8], x: usize, rows: &[u8], base: u64, bits: u
 fn patch_window(
     k: Class,
     window: u64,
-    rows: &[u8],
+    strips: &[u8],
     image: &mut [u8],
     base: u64,
     first: u64,
     set: u64,
 )
-    requires { ⌜ Spacious k window base (now rows) (now image) first ⌝ }
+    requires { ⌜ Spacious k window base (now strips) (now image) first ⌝ }
     ensures { λ _. ⌜ now (image .exit) ≡ patched k base (spotsOf k set first) (now (image .entry)) ⌝ }
 {
     let c = k.bytes() as usize;
@@ -123,7 +131,7 @@ fn patch_window(
         if window - j < 2 {
             n = c;
         }
-        add_row(k, &mut *image, x, rows, base, bits % 4, n);
+        add_strip(k, &mut *image, x, strips, base, bits % 4, n);
         x += 2 * c;
         bits = bits / 4;
         j += 2;
@@ -147,7 +155,7 @@ fn windows(k: Class, size: usize) -> u64
 fn patch_bitmap(
     k: Class,
     window: u64,
-    rows: &[u8],
+    strips: &[u8],
     dense: u64,
     all: u64,
     room: u64,
@@ -156,7 +164,7 @@ fn patch_bitmap(
     first: u64,
     x: u64,
 )
-    requires { ⌜ Sized k window base (now rows) all room (now image) first (x / 2) ⌝ }
+    requires { ⌜ Sized k window base (now strips) all room (now image) first (x / 2) ⌝ }
     ensures { λ _. ⌜ now (image .exit) ≡ patched k base (spotsOf k (x / 2) first) (now (image .entry)) ⌝ }
 {
     let set = x / 2;
@@ -166,7 +174,7 @@ fn patch_bitmap(
             return;
         }
         if first < room {
-            patch_window(k, window, rows, image, base, first, set);
+            patch_window(k, window, strips, image, base, first, set);
             return;
         }
     }
@@ -178,7 +186,7 @@ fn patch_bitmap(
 fn patch(
     k: Class,
     window: u64,
-    rows: &[u8],
+    strips: &[u8],
     dense: u64,
     all: u64,
     room: u64,
@@ -187,7 +195,7 @@ fn patch(
     start: u64,
     image: &mut [u8],
 )
-    requires { ⌜ Aimed k window base (now rows) all room (now s) start (now image) ⌝ }
+    requires { ⌜ Aimed k window base (now strips) all room (now s) start (now image) ⌝ }
     ensures { λ _. ⌜ Patched k (now (s .entry)) base start (now (image .entry)) (now (image .exit)) ⌝ }
 {
     let c = k.bytes() as usize;
@@ -205,7 +213,7 @@ fn patch(
             patch_bitmap(
                 k,
                 window,
-                rows,
+                strips,
                 dense,
                 all,
                 room,
@@ -223,7 +231,7 @@ fn patch(
 fn patch_by(
     wide: bool,
     big: bool,
-    rows: &[u8],
+    strips: &[u8],
     dense: u64,
     all: u64,
     room: u64,
@@ -232,14 +240,14 @@ fn patch_by(
     start: u64,
     image: &mut [u8],
 )
-    requires { ⌜ Aimed (flagged wide big) (windowOf (flagged wide big)) base (now rows) all room (now s) start (now image) ⌝ }
+    requires { ⌜ Aimed (flagged wide big) (windowOf (flagged wide big)) base (now strips) all room (now s) start (now image) ⌝ }
     ensures { λ _. ⌜ Patched (flagged wide big) (now (s .entry)) base start (now (image .entry)) (now (image .exit)) ⌝ }
 {
     let k = place::chosen(wide, big);
     patch(
         k,
         k.window() as u64,
-        rows,
+        strips,
         dense,
         all,
         room,
@@ -254,8 +262,8 @@ fn patch_class(k: Class, s: &[u8], base: u64, start: u64, image: &mut [u8])
     requires { ⌜ Targeted k (now s) start (now image) ⌝ }
     ensures { λ _. ⌜ Patched k (now (s .entry)) base start (now (image .entry)) (now (image .exit)) ⌝ }
 {
-    let mut rows: [u8; 64] = [0; 64];
-    fill_rows(k, &mut rows, base);
+    let mut strips: [u8; 64] = [0; 64];
+    fill_strips(k, &mut strips, base);
     let dense = k.largest() / 65536;
     let all = place::full_bits(k);
     let room = windows(k, image.len());
@@ -263,12 +271,45 @@ fn patch_class(k: Class, s: &[u8], base: u64, start: u64, image: &mut [u8])
     let order = k.order;
     match order {
         ByteOrder::Little => match size {
-            Size::Four => patch_by(false, false, &rows, dense, all, room, s, base, start, image),
-            Size::Eight => patch_by(true, false, &rows, dense, all, room, s, base, start, image),
+            Size::Four => patch_by(
+                false,
+                false,
+                &strips,
+                dense,
+                all,
+                room,
+                s,
+                base,
+                start,
+                image,
+            ),
+            Size::Eight => patch_by(
+                true,
+                false,
+                &strips,
+                dense,
+                all,
+                room,
+                s,
+                base,
+                start,
+                image,
+            ),
         },
         ByteOrder::Big => match size {
-            Size::Four => patch_by(false, true, &rows, dense, all, room, s, base, start, image),
-            Size::Eight => patch_by(true, true, &rows, dense, all, room, s, base, start, image),
+            Size::Four => patch_by(
+                false,
+                true,
+                &strips,
+                dense,
+                all,
+                room,
+                s,
+                base,
+                start,
+                image,
+            ),
+            Size::Eight => patch_by(true, true, &strips, dense, all, room, s, base, start, image),
         },
     }
 }

@@ -1,4 +1,4 @@
-use Rattle.relr_apply.proofs.RowNeeds.{entries}
+use Rattle.relr_apply.proofs.StripNeeds.{entries}
 use borrow.Author.Needs.{needs}
 use Rattle.relr_apply.proofs.add_entry.Statement.{statement}
 use Rattle.relr_apply.proofs.add_entry.Tie as tie

@@ -4,17 +4,17 @@ use Rattle.relr_apply.proofs.patch_class.Statement.{statement}
 use Rattle.relr_apply.proofs.patch_class.Tie as tie
 use Rattle.relr_apply.proofs.patch_class.Reads as reads
 use Rattle.relr_apply.proofs.patch_class.Lts as lts
-use Rattle.relr_apply.proofs.fill_rows.Reads as fill-rows-reads
+use Rattle.relr_apply.proofs.fill_strips.Reads as fill-strips-reads
 use Rattle.relr_apply.proofs.patch_by.Reads as patch-by-reads
 use Rattle.relr_apply.proofs.windows.Reads as windows-reads
 use Rattle.relr_table.proofs.place.full_bits.Reads as full-bits-reads
 use Rattle.word.proofs.Class.largest.Reads as largest-reads
 
-slice-aggregate-fill-rows : tie.Need-slice-aggregate-fill-rows
-slice-aggregate-fill-rows c = search needs
+slice-aggregate-fill-strips : tie.Need-slice-aggregate-fill-strips
+slice-aggregate-fill-strips c = search needs
 
-fill-rows-requires : tie.Need-fill-rows-requires
-fill-rows-requires c κs = search needs
+fill-strips-requires : tie.Need-fill-strips-requires
+fill-strips-requires c κs = search needs
 
 largest-requires : tie.Need-largest-requires
 largest-requires c κs = search needs
@@ -95,8 +95,8 @@ pub patch-class-spec : {M : Type 1} → statement M
 patch-class-spec =
     tie.close
     (tie.spec
-    slice-aggregate-fill-rows
-    fill-rows-requires
+    slice-aggregate-fill-strips
+    fill-strips-requires
     largest-requires
     full-bits-requires
     windows-requires

@@ -1,19 +1,19 @@
 use borrow.Author.Needs.{needs}
 use mathlib.Core.Logic.{⊎-elim}
 use Prim.Native.Nat.{_-_}
-use Rattle.relr_apply.proofs.RowNeeds.{Rolling, rollings, roll-on-last, roll-on-row}
+use Rattle.relr_apply.proofs.StripNeeds.{Rolling, rollings, roll-on-last, roll-on-strip}
 use Rattle.relr_apply.proofs.patch_window.Statement.{statement}
 use Rattle.relr_apply.proofs.patch_window.Tie as tie
 use Rattle.relr_apply.proofs.patch_window.Reads as reads
 use Rattle.relr_apply.proofs.patch_window.Lts as lts
-use Rattle.relr_apply.proofs.add_row.Reads as add-row-reads
+use Rattle.relr_apply.proofs.add_strip.Reads as add-strip-reads
 use Rattle.word.proofs.Class.bytes.Reads as bytes-reads
 
 abbrev Inv-loop : tie.InvT-loop
-Inv-loop k window rows image₀ base first set c bits₀ x₀ j₀ image bits x j = Rolling k image₀ base first set window image bits x j
+Inv-loop k window strips image₀ base first set c bits₀ x₀ j₀ image bits x j = Rolling k image₀ base first set window image bits x j
 
 abbrev μ-loop : tie.MeasureT-loop
-μ-loop k window rows image₀ base first set c bits₀ x₀ j₀ image bits x j = window - j
+μ-loop k window strips image₀ base first set c bits₀ x₀ j₀ image bits x j = window - j
 
 bytes-requires : tie.Need-bytes-requires Inv-loop μ-loop
 bytes-requires c κs = search rollings
@@ -30,8 +30,8 @@ mul-n c = search rollings
 sub-if1 : tie.Need-sub-if1 Inv-loop μ-loop
 sub-if1 c = search rollings
 
-add-row-requires : tie.Need-add-row-requires Inv-loop μ-loop
-add-row-requires c κs = ⊎-elim (λ w. search rollings) (λ w. search rollings) (c .before .if1 .came)
+add-strip-requires : tie.Need-add-strip-requires Inv-loop μ-loop
+add-strip-requires c κs = ⊎-elim (λ w. search rollings) (λ w. search rollings) (c .before .if1 .came)
 
 mul-x : tie.Need-mul-x Inv-loop μ-loop
 mul-x c = search rollings
@@ -47,12 +47,12 @@ loop-less c = search rollings
 
 loop-again : tie.Need-loop-again Inv-loop μ-loop
 loop-again c =
-    let row = c .before .before .add-row .ensures in
+    let strip = c .before .before .add-strip .ensures in
     let g = c .before .before .before .before .before .before .loop .inv in
     let l = c .before .before .before .before .before .loop-test .taken in
     let ce = c .before .before .before .before .before .before .before .bytes .ensures in
     let m = c .before .before .before .before .before .before .before .before .before .before .pre in
-    ⊎-elim (λ w. roll-on-last row (search needs) (search needs) g l ce m (search needs)) (λ w. roll-on-row row (search needs) (search needs) g l ce m (search needs))
+    ⊎-elim (λ w. roll-on-last strip (search needs) (search needs) g l ce m (search needs)) (λ w. roll-on-strip strip (search needs) (search needs) g l ce m (search needs))
     (c .before .before .before .before .if1 .came)
 
 same-length : tie.Need-same-length Inv-loop μ-loop
@@ -72,7 +72,7 @@ patch-window-spec =
     loop-holds
     mul-n
     sub-if1
-    add-row-requires
+    add-strip-requires
     mul-x
     add-x
     add-j

@@ -1,19 +1,19 @@
 use Prim.Native.Nat.{_-_}
-use Rattle.relr_apply.proofs.RowNeeds.{Filling, fillings}
-use Rattle.relr_apply.proofs.fill_rows.Statement.{statement}
-use Rattle.relr_apply.proofs.fill_rows.Tie as tie
-use Rattle.relr_apply.proofs.fill_rows.Reads as reads
-use Rattle.relr_apply.proofs.fill_rows.Lts as lts
+use Rattle.relr_apply.proofs.StripNeeds.{Filling, fillings}
+use Rattle.relr_apply.proofs.fill_strips.Statement.{statement}
+use Rattle.relr_apply.proofs.fill_strips.Tie as tie
+use Rattle.relr_apply.proofs.fill_strips.Reads as reads
+use Rattle.relr_apply.proofs.fill_strips.Lts as lts
 use Rattle.relr_apply.proofs.low.Reads as low-reads
 use Rattle.word.proofs.Class.bytes.Reads as bytes-reads
 use Rattle.word.proofs.add.Reads as add-reads
 use Rattle.word.proofs.store.Reads as store-reads
 
 abbrev Inv-loop : tie.InvT-loop
-Inv-loop k rows₀ base c e₀ rows e = Filling k base rows e
+Inv-loop k strips₀ base c e₀ strips e = Filling k base strips e
 
 abbrev μ-loop : tie.MeasureT-loop
-μ-loop k rows₀ base c e₀ rows e = 8 - e
+μ-loop k strips₀ base c e₀ strips e = 8 - e
 
 bytes-requires : tie.Need-bytes-requires Inv-loop μ-loop
 bytes-requires c κs = search fillings
@@ -57,8 +57,8 @@ same-length c = search fillings
 returns : tie.Need-returns Inv-loop μ-loop
 returns c = search fillings
 
-pub fill-rows-spec : {M : Type 1} → statement M
-fill-rows-spec =
+pub fill-strips-spec : {M : Type 1} → statement M
+fill-strips-spec =
     tie.close
     (tie.spec
     Inv-loop

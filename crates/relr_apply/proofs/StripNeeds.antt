@@ -1,7 +1,7 @@
--- The needs of applying a bitmap by rows, stated as the code asks them.
+-- The needs of applying a bitmap by strips, stated as the code asks them.
 -- Assumes nothing.
 use mathlib.Core.List.{List, [], _∷_, _++_}
-use mathlib.Core.Logic.{_⊎_, inl, inr}
+use mathlib.Core.Logic.{inr}
 use mathlib.Core.Path.{_≡_, refl, sym, ap, subst, _∙_}
 use Prim.Native.Nat.{ℕ, zero, suc, _+_, _-_, _*_, _/_, _%_, _^_, _≤_, _<_}
 use native.Mathlib.Decide.{decLt}
@@ -18,15 +18,14 @@ use Rattle.word.specs.Class.Laws.{bytes-least, bytes-most, by-bytes}
 use Rattle.word.specs.Word.{wordAt, withWord}
 use Rattle.word.specs.Word.Laws.{load-store, load-beside, store-length}
 use Rattle.relr_table.specs.Table.{added, patched}
-use Rattle.relr_apply.specs.Inner.{wrapped, spotsOf, lowOf, addend, Filled, Summed, Added, Swept, Row, RowAdded, Spacious}
-use Rattle.relr_table.proofs.Applying.{added-length, patched-length}
+use Rattle.relr_apply.specs.Inner.{wrapped, spotsOf, lowOf, addend, Filled, Summed, Added, Swept, Strip, StripAdded, Spacious}
 use Rattle.relr_table.proofs.SetBits.{Through, through-begin, through-end, through-clear, through-set}
 use Rattle.relr_apply.proofs.PassNeeds.{adds, wrapped-more}
 
--- ---- the rows
-pub record Filling (k : Class) (base : ℕ) (rows : List ℕ) (e : ℕ) : Type 0 where
+-- ---- the strips
+pub record Filling (k : Class) (base : ℕ) (strips : List ℕ) (e : ℕ) : Type 0 where
   pub within : e ≤ 8
-  pub filled : Filled k base e rows
+  pub filled : Filled k base e strips
 
 -- eight words at the most lie in 64 bytes
 eight : (k : Class) (e : ℕ) → e < 8 → e * bytesOf k + bytesOf k ≤ 64
@@ -38,11 +37,11 @@ bit-fits base zero h l = record { fits = omega arith }
 bit-fits base (suc zero) h l = record { fits = omega arith }
 bit-fits base (suc (suc b)) h l = absurd (omega arith)
 
-pub fill-begin : (k : Class) (base : ℕ) {rows : List ℕ} → length rows ≡ 64 → Filling k base rows 0
+pub fill-begin : (k : Class) (base : ℕ) {strips : List ℕ} → length strips ≡ 64 → Filling k base strips 0
 fill-begin k base l = record { within = omega arith; filled = record { long = l; each = λ i h. absurd (omega arith) } }
 
-module _ {k : Class} {base : ℕ} {rows : List ℕ} {e : ℕ} (g : Filling k base rows e) where
-  pub fill-end : 8 ≤ e → Filled k base 8 rows
+module _ {k : Class} {base : ℕ} {strips : List ℕ} {e : ℕ} (g : Filling k base strips e) where
+  pub fill-end : 8 ≤ e → Filled k base 8 strips
   fill-end h = let q : e ≡ 8 = omega (arith, g .within) in rw q at (g .filled)
 
   module _ (l : e < 8) where
@@ -62,20 +61,20 @@ module _ {k : Class} {base : ℕ} {rows : List ℕ} {e : ℕ} (g : Filling k bas
       pub fill-place : Fits w64 (e * c)
       fill-place = record { fits = rw ce (omega (arith, eight k e l)) }
 
-      room : e * bytesOf k + bytesOf k ≤ length rows
+      room : e * bytesOf k + bytesOf k ≤ length strips
       room = rw (g .filled .long) (eight k e l)
 
       module _ {j : Class} (je : j ≡ lowOf k) where
-        pub fill-in : e * c + bytesOf j ≤ length rows
+        pub fill-in : e * c + bytesOf j ≤ length strips
         fill-in = rw (je, ce) room
 
-        pub fill-more : {a : ℕ} {new : List ℕ} → a ≡ (0 + addend base e) % 2 ^ bitsOf k → new ≡ withWord j rows (e * c) a → Filling k base new (e + 1)
+        pub fill-more : {a : ℕ} {new : List ℕ} → a ≡ (0 + addend base e) % 2 ^ bitsOf k → new ≡ withWord j strips (e * c) a → Filling k base new (e + 1)
         fill-more {a} {new} ae u =
-            let n : new ≡ withWord (lowOf k) rows (e * bytesOf k) a = u ∙ rw (je, ce) in
+            let n : new ≡ withWord (lowOf k) strips (e * bytesOf k) a = u ∙ rw (je, ce) in
             record {
               within = omega arith;
               filled = record {
-                long = ap length n ∙ store-length (lowOf k) rows (e * bytesOf k) a ∙ g .filled .long;
+                long = ap length n ∙ store-length (lowOf k) strips (e * bytesOf k) a ∙ g .filled .long;
                 each = λ i h. rw n (word i (decLt i e) h);
               };
             }
@@ -83,35 +82,35 @@ module _ {k : Class} {base : ℕ} {rows : List ℕ} {e : ℕ} (g : Filling k bas
             small : a < 2 ^ bitsOf k
             small = rw ae (mod-lt (0 + addend base e) (pow-pos (bitsOf k)))
 
-            word : (i : ℕ) → Dec (i < e) → i < e + 1 → wordAt (lowOf k) (withWord (lowOf k) rows (e * bytesOf k) a) (i * bytesOf k) ≡ addend base i % 2 ^ bitsOf k
+            word : (i : ℕ) → Dec (i < e) → i < e + 1 → wordAt (lowOf k) (withWord (lowOf k) strips (e * bytesOf k) a) (i * bytesOf k) ≡ addend base i % 2 ^ bitsOf k
             word i (yes b) h =
                 let o : i * bytesOf k + bytesOf k ≤ e * bytesOf k = omega (arith, mul-le-mul-right (bytesOf k) b) in
-                load-beside (lowOf k) rows (e * bytesOf k) a (i * bytesOf k) room (omega (arith, room)) (inr o) ∙ g .filled .each i b
+                load-beside (lowOf k) strips (e * bytesOf k) a (i * bytesOf k) room (omega (arith, room)) (inr o) ∙ g .filled .each i b
             word i (no b) h =
                 let q : i ≡ e = omega arith in
-                rw q (load-store (lowOf k) rows (e * bytesOf k) a room small ∙ ae ∙ rw zero-add)
+                rw q (load-store (lowOf k) strips (e * bytesOf k) a room small ∙ ae ∙ rw zero-add)
 
     -- nothing is longer than it was
-    pub fill-same : (first : List ℕ) → length first ≡ 64 → length rows ≡ length first
+    pub fill-same : (first : List ℕ) → length first ≡ 64 → length strips ≡ length first
     fill-same first h = g .filled .long ∙ sym h
 
 pub ruleset fillings = (fill-begin, fill-end, fill-same, fill-shift, fill-addend, fill-next, fill-less, fill-place, fill-in, fill-more, needs)
 
--- ---- an addition of a word of the rows
+-- ---- an addition of a word of the strips
 module _ (k : Class) {i : Class} (ie : i ≡ lowOf k) where
-  pub entry-load : (y : ℕ) (rows : List ℕ) → y + bytesOf k ≤ length rows → y + bytesOf i ≤ length rows
-  entry-load y rows h = rw ie h
+  pub entry-load : (y : ℕ) (strips : List ℕ) → y + bytesOf k ≤ length strips → y + bytesOf i ≤ length strips
+  entry-load y strips h = rw ie h
 
-  pub entry-summed : (x y : ℕ) (rows image : List ℕ) {new : List ℕ} {w v a : ℕ} → new ≡ withWord k image x a → a ≡ (w + v) % 2 ^ bitsOf k → w ≡ wordAt k image x
-      → w < 2 ^ bitsOf k → withWord k image x w ≡ image → v ≡ wordAt i rows y → Summed k rows y image new x
-  entry-summed x y rows image {new} {w} {v} {a} u ae we wl back ve =
+  pub entry-summed : (x y : ℕ) (strips image : List ℕ) {new : List ℕ} {w v a : ℕ} → new ≡ withWord k image x a → a ≡ (w + v) % 2 ^ bitsOf k → w ≡ wordAt k image x
+      → w < 2 ^ bitsOf k → withWord k image x w ≡ image → v ≡ wordAt i strips y → Summed k strips y image new x
+  entry-summed x y strips image {new} {w} {v} {a} u ae we wl back ve =
       record { small = rw we at wl; back = rw we at back; is = u ∙ ap (withWord k image x) (ae ∙ rw (we, ve, ie)) }
 
 pub ruleset entries = (entry-load, entry-summed, needs)
 
 -- which is one made once or not at all
-times-added : (k : Class) (base b : ℕ) {rows image new : List ℕ} {x y : ℕ} → Summed k rows y image new x → wordAt (lowOf k) rows y ≡ base * b % 2 ^ bitsOf k → Added k base b image new x
-times-added k base b {rows} {image} {new} {x} {y} g e =
+times-added : (k : Class) (base b : ℕ) {strips image new : List ℕ} {x y : ℕ} → Summed k strips y image new x → wordAt (lowOf k) strips y ≡ base * b % 2 ^ bitsOf k → Added k base b image new x
+times-added k base b {strips} {image} {new} {x} {y} g e =
     let w = wordAt k image x in
     let sum : new ≡ withWord k image x ((w + base * b) % 2 ^ bitsOf k) = g .is ∙ ap (withWord k image x) (rw e (add-mod-mod w (base * b) (2 ^ bitsOf k))) in
     record {
@@ -123,41 +122,41 @@ times-added k base b {rows} {image} {new} {x} {y} g e =
           adds k image new x base refl refl (sum ∙ rw s);
     }
 
--- ---- a row
--- the word of a row that two bits have for the one of them that is bit t
+-- ---- a strip
+-- the word of a strip that two bits have for the one of them that is bit t
 entry-is : (base bits t : ℕ) → t < 2 → addend base (2 * bits + t) ≡ base * (bits / 2 ^ t % 2)
 entry-is base bits t l =
     let e : (2 * bits + t) / 2 ≡ bits = omega arith in
     let f : (2 * bits + t) % 2 ≡ t = omega arith in
     rw (e, f)
 
-pub record Rowing (k : Class) (old : List ℕ) (base x bits n : ℕ) (image : List ℕ) (j : ℕ) : Type 0 where
+pub record Along (k : Class) (old : List ℕ) (base x bits n : ℕ) (image : List ℕ) (j : ℕ) : Type 0 where
   pub t : ℕ
   pub here : j ≡ t * bytesOf k
   pub within : j ≤ n
   pub same : length image ≡ length old
   pub swept : Swept k base t bits x old image
 
-module _ {k : Class} {base : ℕ} {rows old : List ℕ} {x bits n : ℕ} (m : Row k base rows old x bits n) where
-  pub row-begin : Rowing k old base x bits n old 0
-  row-begin = record { t = 0; here = omega arith; within = omega arith; same = refl; swept = refl }
+module _ {k : Class} {base : ℕ} {strips old : List ℕ} {x bits n : ℕ} (m : Strip k base strips old x bits n) where
+  pub strip-begin : Along k old base x bits n old 0
+  strip-begin = record { t = 0; here = omega arith; within = omega arith; same = refl; swept = refl }
 
-  pub row-two : {c : ℕ} → c ≡ bytesOf k → Fits w64 (2 * c)
-  row-two ce = record { fits = rw ce (omega (arith, bytes-most k)) }
+  pub strip-two : {c : ℕ} → c ≡ bytesOf k → Fits w64 (2 * c)
+  strip-two ce = record { fits = rw ce (omega (arith, bytes-most k)) }
 
-  -- where the row begins
-  row-at : bits * (2 * bytesOf k) ≤ 48
-  row-at = by-bytes (λ (c : ℕ). bits * (2 * c) ≤ 48) (omega (arith, m .two)) (omega (arith, m .two)) k
+  -- where the strip begins
+  strip-at : bits * (2 * bytesOf k) ≤ 48
+  strip-at = by-bytes (λ (c : ℕ). bits * (2 * c) ≤ 48) (omega (arith, m .two)) (omega (arith, m .two)) k
 
-  pub row-place : {c : ℕ} → c ≡ bytesOf k → Fits w64 (bits * (2 * c))
-  row-place ce = record { fits = rw ce (omega (arith, row-at)) }
+  pub strip-place : {c : ℕ} → c ≡ bytesOf k → Fits w64 (bits * (2 * c))
+  strip-place ce = record { fits = rw ce (omega (arith, strip-at)) }
 
-  module _ {image : List ℕ} {j : ℕ} (g : Rowing k old base x bits n image j) where
-    pub row-long : length image ≡ length old
-    row-long = g .same
+  module _ {image : List ℕ} {j : ℕ} (g : Along k old base x bits n image j) where
+    pub strip-long : length image ≡ length old
+    strip-long = g .same
 
-    pub row-end : n ≤ j → RowAdded k base n bits x old image
-    row-end h =
+    pub strip-end : n ≤ j → StripAdded k base n bits x old image
+    strip-end h =
         let q : n ≡ g .t * bytesOf k = omega (arith, g .here, g .within) in
         let some : 0 < bytesOf k = omega (arith, bytes-least k) in
         let e : n / bytesOf k ≡ g .t = rw q (mul-div-cancel (g .t) some) in
@@ -174,37 +173,37 @@ module _ {k : Class} {base : ℕ} {rows old : List ℕ} {x bits n : ℕ} (m : Ro
       on : j + bytesOf k ≤ n
       on = omega (arith, mul-le-mul-right (bytesOf k) less, g .here, m .long)
 
-      pub row-in : x + j + bytesOf k ≤ length image
-      row-in = rw (g .same) (omega (arith, on, m .room))
+      pub strip-in : x + j + bytesOf k ≤ length image
+      strip-in = rw (g .same) (omega (arith, on, m .room))
 
-      pub row-index : length old * 1 < 2 ^ 63 → Fits w64 (x + j)
-      row-index h = record { fits = omega (arith, on, m .room) }
+      pub strip-index : length old * 1 < 2 ^ 63 → Fits w64 (x + j)
+      strip-index h = record { fits = omega (arith, on, m .room) }
 
       module _ {c : ℕ} (ce : c ≡ bytesOf k) where
-        pub row-on : length old * 1 < 2 ^ 63 → Fits w64 (j + c)
-        row-on h = record { fits = rw ce (omega (arith, on, m .room)) }
+        pub strip-on : length old * 1 < 2 ^ 63 → Fits w64 (j + c)
+        strip-on h = record { fits = rw ce (omega (arith, on, m .room)) }
 
-        pub row-less : n - (j + c) < n - j
-        row-less = rw ce (omega (arith, bytes-least k))
+        pub strip-less : n - (j + c) < n - j
+        strip-less = rw ce (omega (arith, bytes-least k))
 
         near : bits * (2 * bytesOf k) + j + bytesOf k ≤ 64
-        near = omega (arith, row-at, mul-le-mul-right (bytesOf k) (m .few), on, m .long, bytes-most k)
+        near = omega (arith, strip-at, mul-le-mul-right (bytesOf k) (m .few), on, m .long, bytes-most k)
 
-        pub row-entry : Fits w64 (bits * (2 * c) + j)
-        row-entry = record { fits = rw ce (omega (arith, near)) }
+        pub strip-entry : Fits w64 (bits * (2 * c) + j)
+        strip-entry = record { fits = rw ce (omega (arith, near)) }
 
-        pub row-load : bits * (2 * c) + j + bytesOf k ≤ length rows
-        row-load = rw (ce, m .addends .long) near
+        pub strip-load : bits * (2 * c) + j + bytesOf k ≤ length strips
+        strip-load = rw (ce, m .addends .long) near
 
-        -- the row has the addend of the word
-        entry : wordAt (lowOf k) rows (bits * (2 * c) + j) ≡ base * (bits / 2 ^ (g .t) % 2) % 2 ^ bitsOf k
+        -- the strip has the addend of the word
+        entry : wordAt (lowOf k) strips (bits * (2 * c) + j) ≡ base * (bits / 2 ^ (g .t) % 2) % 2 ^ bitsOf k
         entry =
             let e : 2 * bits + g .t < 8 = omega (arith, m .two, less, m .few) in
             let at : bits * (2 * c) + j ≡ (2 * bits + g .t) * bytesOf k = rw (ce, g .here) (omega arith) in
             rw at (m .addends .each (2 * bits + g .t) e ∙ ap (λ (y : ℕ). y % 2 ^ bitsOf k) (entry-is base bits (g .t) (omega (arith, less, m .few))))
 
-        pub row-next : {new : List ℕ} → Summed k rows (bits * (2 * c) + j) image new (x + j) → Rowing k old base x bits n new (j + c)
-        row-next {new} u =
+        pub strip-next : {new : List ℕ} → Summed k strips (bits * (2 * c) + j) image new (x + j) → Along k old base x bits n new (j + c)
+        strip-next {new} u =
             let b = bits / 2 ^ (g .t) % 2 in
             record {
               t = suc (g .t);
@@ -214,9 +213,9 @@ module _ {k : Class} {base : ℕ} {rows old : List ℕ} {x bits n : ℕ} (m : Ro
               swept = (image, (g .swept, subst (λ (y : ℕ). Added k base b image new (x + y)) (g .here) (times-added k base b u entry)));
             }
 
-pub ruleset rowings = (row-begin, row-two, row-place, row-long, row-end, row-in, row-index, row-on, row-less, row-entry, row-load, row-next, needs)
+pub ruleset alongs = (strip-begin, strip-two, strip-place, strip-long, strip-end, strip-in, strip-index, strip-on, strip-less, strip-entry, strip-load, strip-next, needs)
 
--- ---- a window, row by row
+-- ---- a window, strip by strip
 -- x is the index of the location at j
 pub record Sweeping (k : Class) (old : List ℕ) (base first set : ℕ) (image : List ℕ) (bits x j : ℕ) : Type 0 where
   pub p : List ℕ
@@ -257,7 +256,7 @@ module _ {k : Class} {old : List ℕ} {base first set : ℕ} {image : List ℕ} 
       go (suc zero) e = marks e
       go (suc (suc d)) e = absurd (omega arith)
 
--- a row further, of two words or, at the window's end, of one
+-- a strip further, of two words or, at the window's end, of one
 module _ {k : Class} {old : List ℕ} {base first set : ℕ} {image : List ℕ} {bits x j : ℕ} (g : Sweeping k old base first set image bits x j)
     (few : first + windowOf k * bytesOf k < 2 ^ 64) where
   sweep-one : {new : List ℕ} → j + 1 ≤ windowOf k → Swept k base 1 (bits % 4) x image new → Sweeping k old base first set new (bits / 2) (x + bytesOf k) (j + 1)
@@ -277,13 +276,13 @@ module _ {k : Class} {old : List ℕ} {base first set : ℕ} {image : List ℕ} 
       let i : j + 1 + 1 ≡ j + 2 = omega arith in
       rw (q, y, i) at d
 
--- at each row
+-- at each strip
 pub record Rolling (k : Class) (old : List ℕ) (base first set n : ℕ) (image : List ℕ) (bits x j : ℕ) : Type 0 where
   pub same : length image ≡ length old
   pub before : j ≤ n → Sweeping k old base first set image bits x j
   pub behind : n < j → image ≡ patched k base (spotsOf k set first) old
 
-module _ {k : Class} {n base : ℕ} {rows old : List ℕ} {first : ℕ} (m : Spacious k n base rows old first) where
+module _ {k : Class} {n base : ℕ} {strips old : List ℕ} {first : ℕ} (m : Spacious k n base strips old first) where
   pub roll-begin : (set : ℕ) → Rolling k old base first set n old set first 0
   unfolding patched wrapped
   roll-begin set =
@@ -329,27 +328,27 @@ module _ {k : Class} {n base : ℕ} {rows old : List ℕ} {first : ℕ} (m : Spa
       pub roll-less : n - (j + 2) < n - j
       roll-less = omega arith
 
-      row : (t d : ℕ) → t ≤ 2 → j + t ≤ n → d ≡ t * bytesOf k → Row k base rows image x (bits % 4) d
-      row t d h q e = record { addends = m .addends; two = omega arith; words = t; few = h; long = e; room = rw (g .same, e) (ahead t q) }
+      strip : (t d : ℕ) → t ≤ 2 → j + t ≤ n → d ≡ t * bytesOf k → Strip k base strips image x (bits % 4) d
+      strip t d h q e = record { addends = m .addends; two = omega arith; words = t; few = h; long = e; room = rw (g .same, e) (ahead t q) }
 
       module _ {c : ℕ} (ce : c ≡ bytesOf k) where
         pub roll-on : length old * 1 < 2 ^ 63 → Fits w64 (x + 2 * c)
         roll-on h = record { fits = rw ce (omega (arith, ahead 0 (omega arith), bytes-most k)) }
 
         module _ {d : ℕ} where
-          pub roll-last : n - j < 2 → d ≡ c → Row k base rows image x (bits % 4) d
-          roll-last h e = row 1 d (omega arith) (omega arith) (e ∙ rw ce (omega arith))
+          pub roll-last : n - j < 2 → d ≡ c → Strip k base strips image x (bits % 4) d
+          roll-last h e = strip 1 d (omega arith) (omega arith) (e ∙ rw ce (omega arith))
 
-          pub roll-row : 2 ≤ n - j → d ≡ 2 * c → Row k base rows image x (bits % 4) d
-          roll-row h e = row 2 d (omega arith) (omega arith) (e ∙ rw ce (omega arith))
+          pub roll-strip : 2 ≤ n - j → d ≡ 2 * c → Strip k base strips image x (bits % 4) d
+          roll-strip h e = strip 2 d (omega arith) (omega arith) (e ∙ rw ce (omega arith))
 
-          words : {new : List ℕ} (t : ℕ) → RowAdded k base d (bits % 4) x image new → d ≡ t * bytesOf k → Swept k base t (bits % 4) x image new
+          words : {new : List ℕ} (t : ℕ) → StripAdded k base d (bits % 4) x image new → d ≡ t * bytesOf k → Swept k base t (bits % 4) x image new
           words t s e =
               let some : 0 < bytesOf k = omega (arith, bytes-least k) in
               let q : d / bytesOf k ≡ t = rw e (mul-div-cancel t some) in
               rw q at (s .swept)
 
-          module _ (few : length old * 1 < 2 ^ 63) {new : List ℕ} (s : RowAdded k base d (bits % 4) x image new) where
+          module _ (few : length old * 1 < 2 ^ 63) {new : List ℕ} (s : StripAdded k base d (bits % 4) x image new) where
             roll-done : n - j < 2 → d ≡ c → Rolling k old base first set n new (bits / 4) (x + 2 * c) (j + 2)
             roll-done h e =
                 let w : j + 1 ≡ windowOf k = omega (arith, m .locations) in
@@ -365,15 +364,15 @@ module _ {k : Class} {n base : ℕ} {rows old : List ℕ} {first : ℕ} (m : Spa
                   behind = λ q. absurd (omega arith);
                 }
 
--- the row that was added comes first, since it shows the rest
-pub roll-on-last : {k : Class} {base d : ℕ} {image new old rows : List ℕ} {first set n bits x j c : ℕ} → RowAdded k base d (bits % 4) x image new → d ≡ c → n - j < 2
-    → Rolling k old base first set n image bits x j → j < n → c ≡ bytesOf k → Spacious k n base rows old first → length old * 1 < 2 ^ 63
+-- the strip that was added comes first, since it shows the rest
+pub roll-on-last : {k : Class} {base d : ℕ} {image new old strips : List ℕ} {first set n bits x j c : ℕ} → StripAdded k base d (bits % 4) x image new → d ≡ c → n - j < 2
+    → Rolling k old base first set n image bits x j → j < n → c ≡ bytesOf k → Spacious k n base strips old first → length old * 1 < 2 ^ 63
     → Rolling k old base first set n new (bits / 4) (x + 2 * c) (j + 2)
 roll-on-last s e h g l ce m few = roll-done m g l ce few s h e
 
-pub roll-on-row : {k : Class} {base d : ℕ} {image new old rows : List ℕ} {first set n bits x j c : ℕ} → RowAdded k base d (bits % 4) x image new → d ≡ 2 * c → 2 ≤ n - j
-    → Rolling k old base first set n image bits x j → j < n → c ≡ bytesOf k → Spacious k n base rows old first → length old * 1 < 2 ^ 63
+pub roll-on-strip : {k : Class} {base d : ℕ} {image new old strips : List ℕ} {first set n bits x j c : ℕ} → StripAdded k base d (bits % 4) x image new → d ≡ 2 * c → 2 ≤ n - j
+    → Rolling k old base first set n image bits x j → j < n → c ≡ bytesOf k → Spacious k n base strips old first → length old * 1 < 2 ^ 63
     → Rolling k old base first set n new (bits / 4) (x + 2 * c) (j + 2)
-roll-on-row s e h g l ce m few = roll-more m g l ce few s h e
+roll-on-strip s e h g l ce m few = roll-more m g l ce few s h e
 
-pub ruleset rollings = (roll-begin, roll-two, roll-long, roll-end, roll-count, roll-less, roll-on, roll-last, roll-row, roll-on-last, roll-on-row, needs)
+pub ruleset rollings = (roll-begin, roll-two, roll-long, roll-end, roll-count, roll-less, roll-on, roll-last, roll-strip, roll-on-last, roll-on-strip, needs)
