@@ -8,13 +8,13 @@
 --   repeat-four     an offset that is listed twice: the images of the three calls, by which it holds
 -- Assumes nothing.
 use mathlib.Core.Bool.{false, cond}
-use lib.Dec.{eqb, ltb}
 use mathlib.Core.List.{List, [], _∷_}
 use mathlib.Core.Logic.{inr}
 use mathlib.Core.Path.{_≡_, refl, sym, ap, _∙_, subst}
 use Prim.Native.Nat.{ℕ, _+_, _-_, _%_, _^_, _*_, _<_}
 use native.Mathlib.Nat.{add-mod-mod, add-mod-right, mod-eq-of-lt, mod-lt}
 use native.Mathlib.Omega.{arith}
+use lib.Dec.{eqb, ltb}
 use lib.ListN.{length}
 use lib.Pow.{pow-pos}
 use borrow.Author.Tests.{le-ltb}
@@ -36,29 +36,29 @@ use Rattle.relr_table.specs.Contract.{changed, imageAfter, Applies}
 use Rattle.relr_table.proofs.Applying.{patched-length}
 use Rattle.relr_table.proofs.Marked.{all-map}
 use Rattle.relr_table.proofs.Twice.{patched-twice}
-use Rattle.demands.specs.Moving.{Fits, Base, sumOf, difference, Three, Succeed, Step, Worked}
+use Rattle.demands.specs.Moving.{Movable, Allowed, sumOf, difference, Three, Succeed, Step, Worked}
 use Rattle.demands.proofs.ImageStart.{applying-is, relr-applies}
 
 -- ---- the bases
-base-allowed : (k : Class) (base : ℕ) → Base k base → above k base ≡ false
+base-allowed : (k : Class) (base : ℕ) → Allowed k base → above k base ≡ false
 base-allowed k base = by-bytes (λ (n : ℕ). base < 2 ^ (8 * n) → cond (eqb n 4) (ltb 4294967295 base) false ≡ false) (λ h. le-ltb 4294967295 base (omega arith)) (λ h. refl) k
 
-sum-base : (k : Class) (a b : ℕ) → Base k (sumOf k a b)
+sum-base : (k : Class) (a b : ℕ) → Allowed k (sumOf k a b)
 sum-base k a b = mod-lt (a + b) (pow-pos (bitsOf k))
 
 -- a and what leads from it to b are b
-difference-base : (k : Class) (a b : ℕ) → Base k (difference k a b)
+difference-base : (k : Class) (a b : ℕ) → Allowed k (difference k a b)
 difference-base k a b = mod-lt (b + (spaceOf k - a)) (pow-pos (bitsOf k))
 
-difference-sum : (k : Class) (a b : ℕ) → Base k a → Base k b → sumOf k a (difference k a b) ≡ b
+difference-sum : (k : Class) (a b : ℕ) → Allowed k a → Allowed k b → sumOf k a (difference k a b) ≡ b
 difference-sum k a b below h =
     let m = spaceOf k in
     let e : a + (b + (m - a)) ≡ b + m = omega arith in
     add-mod-mod a (b + (m - a)) m ∙ ap (λ (n : ℕ). n % m) e ∙ add-mod-right b m ∙ mod-eq-of-lt h
 
 -- ---- where no two words overlap in part
-module _ (class : ℕ) (order : ByteOrder) (s : List ℕ) (start : ℕ) (old : List ℕ) (f : Fits class order OneOrBeside s start (length old)) (a b : ℕ) where
-  pub whole-twice : Base (classIn (f .z) order) a → Base (classIn (f .z) order) b → {mid new other : List ℕ} {first second third : Answer}
+module _ (class : ℕ) (order : ByteOrder) (s : List ℕ) (start : ℕ) (old : List ℕ) (f : Movable class order OneOrBeside s start (length old)) (a b : ℕ) where
+  pub whole-twice : Allowed (classIn (f .z) order) a → Allowed (classIn (f .z) order) b → {mid new other : List ℕ} {first second third : Answer}
       → Three class order s start a b (sumOf (classIn (f .z) order) a b) old mid new other first second third
       → Succeed first second third (length (f .list)) × (new ≡ other)
   whole-twice g h {mid} {new} {other} {first} {second} {third} t =
@@ -72,8 +72,8 @@ module _ (class : ℕ) (order : ByteOrder) (s : List ℕ) (start : ℕ) (old : L
       (record { one = r; two = q; three = p }, n ∙ ap (patched k b (indexes start l)) m ∙ patched-twice k start a b l old (f .each) (f .pairs) ∙ sym o)
 
 -- the same of a base and what leads from it to another
-module _ (class : ℕ) (order : ByteOrder) (s : List ℕ) (start : ℕ) (old : List ℕ) (f : Fits class order OneOrBeside s start (length old)) (a b : ℕ) where
-  pub whole-moves : Base (classIn (f .z) order) a → Base (classIn (f .z) order) b → {there moved here : List ℕ} {first second third : Answer}
+module _ (class : ℕ) (order : ByteOrder) (s : List ℕ) (start : ℕ) (old : List ℕ) (f : Movable class order OneOrBeside s start (length old)) (a b : ℕ) where
+  pub whole-moves : Allowed (classIn (f .z) order) a → Allowed (classIn (f .z) order) b → {there moved here : List ℕ} {first second third : Answer}
       → Three class order s start a (difference (classIn (f .z) order) a b) b old there moved here first second third
       → Succeed first second third (length (f .list)) × (moved ≡ here)
   whole-moves g h {there} {moved} {here} {first} {second} {third} t =
@@ -90,11 +90,11 @@ pairs-right : (k : Class) (l : List ℕ) → Pairwise (Beside k) l → Pairwise 
 pairs-right k [] h = tt
 pairs-right k (x ∷ l) h = (all-right k x l (h .0), pairs-right k l (h .1))
 
-abbrev fits-right : {class : ℕ} {order : ByteOrder} {s : List ℕ} {start size : ℕ} → Fits class order Beside s start size → Fits class order OneOrBeside s start size
+abbrev fits-right : {class : ℕ} {order : ByteOrder} {s : List ℕ} {start size : ℕ} → Movable class order Beside s start size → Movable class order OneOrBeside s start size
 fits-right {class} {order} f = record { z = f .z; named = f .named; list = f .list; decodes = f .decodes; each = f .each; pairs = pairs-right (classIn (f .z) order) (f .list) (f .pairs) }
 
-module _ (class : ℕ) (order : ByteOrder) (s : List ℕ) (start : ℕ) (old : List ℕ) (f : Fits class order Beside s start (length old)) (a b : ℕ)
-    (g : Base (classIn (f .z) order) a) (h : Base (classIn (f .z) order) b) {mid new other : List ℕ} {first second third : Answer} where
+module _ (class : ℕ) (order : ByteOrder) (s : List ℕ) (start : ℕ) (old : List ℕ) (f : Movable class order Beside s start (length old)) (a b : ℕ)
+    (g : Allowed (classIn (f .z) order) a) (h : Allowed (classIn (f .z) order) b) {mid new other : List ℕ} {first second third : Answer} where
   pub relr-twice : Three class order s start a b (sumOf (classIn (f .z) order) a b) old mid new other first second third
       → Succeed first second third (length (f .list)) × (new ≡ other)
   relr-twice t = whole-twice class order s start old (fits-right f) a b g h t

@@ -16,7 +16,7 @@ use Rattle.relr_table.specs.Contract.{imageAfter, Applies}
 
 -- a table and an image of so many bytes from a start on: the table is accepted, every word is inside the image, and any two list entries are as
 -- P says
-pub record Fits (class : ℕ) (order : ByteOrder) (P : Class → ℕ → ℕ → Type 0) (s : List ℕ) (start size : ℕ) : Type 0 where
+pub record Movable (class : ℕ) (order : ByteOrder) (P : Class → ℕ → ℕ → Type 0) (s : List ℕ) (start size : ℕ) : Type 0 where
   pub z : Size
   pub named : classOf class ≡ Is z
   pub list : List ℕ
@@ -25,8 +25,8 @@ pub record Fits (class : ℕ) (order : ByteOrder) (P : Class → ℕ → ℕ →
   pub pairs : Pairwise (P (classIn z order)) list
 
 -- a base of a class: below 2^W, so in class 4 within 2^32 - 1
-abbrev pub Base : Class → ℕ → Type 0
-Base k base = base < spaceOf k
+abbrev pub Allowed : Class → ℕ → Type 0
+Allowed k base = base < spaceOf k
 
 -- the sum of two bases, modulo 2^W
 abbrev pub sumOf : Class → ℕ → ℕ → ℕ
