@@ -31,7 +31,7 @@ use Rattle.word.specs.Class.{sizeOf, classIn, bitsOf}
 use Rattle.word.specs.Class.Laws.{by-bytes, class-of}
 use Rattle.word.specs.Word.{valueOf, bytesIn, arranged, wordAt, withWord, firstWords, wordsOf, Beside}
 use Rattle.relr_table.specs.Words as relr
-use Rattle.relr_table.specs.Table.{spaceOf, above, All, Pairwise, OneOrBeside, parse, decode, leading, contained, targets, indexes, added, patched}
+use Rattle.relr_table.specs.Table.{spaceOf, above, Pairwise, OneOrBeside, parse, decode, leading, contained, targets, indexes, added, patched}
 use Rattle.relr_table.specs.Contract.{changed, imageAfter, Applies}
 use Rattle.relr_table.proofs.Applying.{patched-length}
 use Rattle.relr_table.proofs.Marked.{all-map}
@@ -83,12 +83,9 @@ module _ (class : ℕ) (order : ByteOrder) (s : List ℕ) (start : ℕ) (old : L
       (subst (λ (c : ℕ). Three class order s start a d c old there moved here first second third) (sym (difference-sum k a b g h)) t)
 
 -- ---- where any two entries lie at least one word apart
-all-right : (k : Class) (x : ℕ) (l : List ℕ) → All (Beside k x) l → All (OneOrBeside k x) l
-all-right k x l h = all-map (Beside k x) (OneOrBeside k x) (λ y b. inr b) l h
-
 pairs-right : (k : Class) (l : List ℕ) → Pairwise (Beside k) l → Pairwise (OneOrBeside k) l
 pairs-right k [] h = tt
-pairs-right k (x ∷ l) h = (all-right k x l (h .0), pairs-right k l (h .1))
+pairs-right k (x ∷ l) h = (all-map (Beside k x) (OneOrBeside k x) (λ y b. inr b) l (h .0), pairs-right k l (h .1))
 
 abbrev fits-right : {class : ℕ} {order : ByteOrder} {s : List ℕ} {start size : ℕ} → Movable class order Beside s start size → Movable class order OneOrBeside s start size
 fits-right {class} {order} f = record { z = f .z; named = f .named; list = f .list; decodes = f .decodes; each = f .each; pairs = pairs-right (classIn (f .z) order) (f .list) (f .pairs) }

@@ -310,23 +310,16 @@ module _ {k : Class} {n base : ℕ} {strips : List ℕ} {all room : ℕ} {s old 
         pub working-marks : Sized k n base strips all room image f (x / 2)
         working-marks = record { patchable = record { in-window = word .in-window; in-image = spots .1 }; paced = rw working-long (t .paced) }
 
-        more-of : {new : List ℕ} {d b : ℕ} → d ≡ windowOf k * bytesOf k → b ≡ (behind + d) % 2 ^ 64 → new ≡ patched k base (spotsOf k (x / 2) f) image
+        pub working-more : {new : List ℕ} {d b : ℕ} → d ≡ windowOf k * bytesOf k → b ≡ (behind + d) % 2 ^ 64 → new ≡ patched k base (spotsOf k (x / 2) f) image
             → Working k s old base start (at + c) b new
-        more-of {d = d} de be u =
+        working-more {d = d} de be u =
             more word ce (rw (be, ← de) (index-on behind start (bytesOf k) d)) (u ∙ ap (λ (l : List ℕ). patched k base l image) (spots .0))
-
--- what the bitmap does comes first, since it shows where it stands
-pub working-more : {k : Class} {n base : ℕ} {strips : List ℕ} {all room : ℕ} {s old : List ℕ} {start at behind : ℕ} {image new : List ℕ} {x c f d b : ℕ}
-    → new ≡ patched k base (spotsOf k (x / 2) f) image → f ≡ (behind + c) % 2 ^ 64 → b ≡ (behind + d) % 2 ^ 64 → x ≡ wordAt k s at
-    → Working k s old base start at behind image → Aimed k n base strips all room s start old → at < length s → x < spaceOf k → (x % 2 ≡ 0 → ⊥) → c ≡ bytesOf k
-    → d ≡ windowOf k * bytesOf k → Working k s old base start (at + c) b new
-working-more u fe be e g t l small odd ce de = more-of t g l e small odd ce fe de be u
 
 module _ {k : Class} {s old : List ℕ} {base start at behind : ℕ} {image : List ℕ} (g : Working k s old base start at behind image) where
   pub working-load : at < length s → at + bytesOf k ≤ length s
   working-load l = following-load (g .following) l
 
-pub ruleset workings = (working-begin, working-long, working-end, working-low, working-in, working-one, working-marks, working-more, working-load, step-fits, step-less, needs)
+pub ruleset workings = (working-begin, working-long, working-end, working-low, working-in, working-one, working-marks, working-load, step-fits, step-less, needs)
 
 -- ---- one class by two names
 module _ {k j : Class} (e : k ≡ j) (s old : List ℕ) (start : ℕ) where

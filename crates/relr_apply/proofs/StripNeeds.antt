@@ -17,7 +17,7 @@ use Rattle.word.specs.Class.{bytesOf, bitsOf, windowOf}
 use Rattle.word.specs.Class.Laws.{bytes-least, bytes-most, by-bytes}
 use Rattle.word.specs.Word.{wordAt, withWord}
 use Rattle.word.specs.Word.Laws.{load-store, load-beside, store-length}
-use Rattle.relr_table.specs.Table.{added, patched}
+use Rattle.relr_table.specs.Table.{patched}
 use Rattle.relr_apply.specs.Inner.{wrapped, spotsOf, lowOf, addend, Filled, Summed, Added, Swept, Strip, StripAdded, Spacious}
 use Rattle.relr_table.proofs.SetBits.{Through, through-begin, through-end, through-clear, through-set}
 use Rattle.relr_apply.proofs.PassNeeds.{adds, wrapped-more}
@@ -90,11 +90,7 @@ module _ {k : Class} {base : ℕ} {strips : List ℕ} {e : ℕ} (g : Filling k b
                 let q : i ≡ e = omega arith in
                 rw q (load-store (lowOf k) strips (e * bytesOf k) a room small ∙ ae ∙ rw zero-add)
 
-    -- nothing is longer than it was
-    pub fill-same : (first : List ℕ) → length first ≡ 64 → length strips ≡ length first
-    fill-same first h = g .filled .long ∙ sym h
-
-pub ruleset fillings = (fill-begin, fill-end, fill-same, fill-shift, fill-addend, fill-next, fill-less, fill-place, fill-in, fill-more, needs)
+pub ruleset fillings = (fill-begin, fill-end, fill-shift, fill-addend, fill-next, fill-less, fill-place, fill-in, fill-more, needs)
 
 -- ---- an addition of a word of the strips
 module _ (k : Class) {i : Class} (ie : i ≡ lowOf k) where
@@ -123,6 +119,13 @@ times-added k base b {strips} {image} {new} {x} {y} g e =
     }
 
 -- ---- a strip
+pub two-fit : (k : Class) {c : ℕ} → c ≡ bytesOf k → Fits w64 (2 * c)
+two-fit k ce = record { fits = rw ce (omega (arith, bytes-most k)) }
+
+-- so many bytes are so many words
+words-of : (k : Class) (t : ℕ) {n : ℕ} → n ≡ t * bytesOf k → n / bytesOf k ≡ t
+words-of k t e = let some : 0 < bytesOf k = omega (arith, bytes-least k) in rw e (mul-div-cancel t some)
+
 -- the word of a strip that two bits have for the one of them that is bit t
 entry-is : (base bits t : ℕ) → t < 2 → addend base (2 * bits + t) ≡ base * (bits / 2 ^ t % 2)
 entry-is base bits t l =
@@ -141,9 +144,6 @@ module _ {k : Class} {base : ℕ} {strips old : List ℕ} {x bits n : ℕ} (m : 
   pub strip-begin : Along k old base x bits n old 0
   strip-begin = record { t = 0; here = omega arith; within = omega arith; same = refl; swept = refl }
 
-  pub strip-two : {c : ℕ} → c ≡ bytesOf k → Fits w64 (2 * c)
-  strip-two ce = record { fits = rw ce (omega (arith, bytes-most k)) }
-
   -- where the strip begins
   strip-at : bits * (2 * bytesOf k) ≤ 48
   strip-at = by-bytes (λ (c : ℕ). bits * (2 * c) ≤ 48) (omega (arith, m .two)) (omega (arith, m .two)) k
@@ -158,9 +158,7 @@ module _ {k : Class} {base : ℕ} {strips old : List ℕ} {x bits n : ℕ} (m : 
     pub strip-end : n ≤ j → StripAdded k base n bits x old image
     strip-end h =
         let q : n ≡ g .t * bytesOf k = omega (arith, g .here, g .within) in
-        let some : 0 < bytesOf k = omega (arith, bytes-least k) in
-        let e : n / bytesOf k ≡ g .t = rw q (mul-div-cancel (g .t) some) in
-        record { same = g .same; swept = rw e (g .swept) }
+        record { same = g .same; swept = rw (words-of k (g .t) q) (g .swept) }
 
     module _ (l : j < n) where
       less : g .t < m .words
@@ -213,7 +211,7 @@ module _ {k : Class} {base : ℕ} {strips old : List ℕ} {x bits n : ℕ} (m : 
               swept = (image, (g .swept, subst (λ (y : ℕ). Added k base b image new (x + y)) (g .here) (times-added k base b u entry)));
             }
 
-pub ruleset alongs = (strip-begin, strip-two, strip-place, strip-long, strip-end, strip-in, strip-index, strip-on, strip-less, strip-entry, strip-load, strip-next, needs)
+pub ruleset alongs = (two-fit, strip-begin, strip-place, strip-long, strip-end, strip-in, strip-index, strip-on, strip-less, strip-entry, strip-load, strip-next, needs)
 
 -- ---- a window, strip by strip
 -- x is the index of the location at j
@@ -292,9 +290,6 @@ module _ {k : Class} {n base : ℕ} {strips old : List ℕ} {first : ℕ} (m : S
         behind = λ h. absurd (omega arith);
       }
 
-  pub roll-two : {c : ℕ} → c ≡ bytesOf k → Fits w64 (2 * c)
-  roll-two ce = record { fits = rw ce (omega (arith, bytes-most k)) }
-
   module _ {set : ℕ} {image : List ℕ} {bits x j : ℕ} (g : Rolling k old base first set n image bits x j) where
     pub roll-long : length image ≡ length old
     roll-long = g .same
@@ -322,8 +317,8 @@ module _ {k : Class} {n base : ℕ} {strips old : List ℕ} {first : ℕ} (m : S
       small : length old * 1 < 2 ^ 63 → first + windowOf k * bytesOf k < 2 ^ 64
       small h = omega (arith, m .room)
 
-      pub roll-count : n < 2 ^ 64 → Fits w64 (j + 2)
-      roll-count h = record { fits = omega (arith, m .locations, bytes-most k) }
+      pub roll-count : Fits w64 (j + 2)
+      roll-count = record { fits = omega (arith, m .locations, bytes-most k) }
 
       pub roll-less : n - (j + 2) < n - j
       roll-less = omega arith
@@ -343,20 +338,17 @@ module _ {k : Class} {n base : ℕ} {strips old : List ℕ} {first : ℕ} (m : S
           roll-strip h e = strip 2 d (omega arith) (omega arith) (e ∙ rw ce (omega arith))
 
           words : {new : List ℕ} (t : ℕ) → StripAdded k base d (bits % 4) x image new → d ≡ t * bytesOf k → Swept k base t (bits % 4) x image new
-          words t s e =
-              let some : 0 < bytesOf k = omega (arith, bytes-least k) in
-              let q : d / bytesOf k ≡ t = rw e (mul-div-cancel t some) in
-              rw q at (s .swept)
+          words t s e = rw (words-of k t e) at (s .swept)
 
           module _ (few : length old * 1 < 2 ^ 63) {new : List ℕ} (s : StripAdded k base d (bits % 4) x image new) where
-            roll-done : n - j < 2 → d ≡ c → Rolling k old base first set n new (bits / 4) (x + 2 * c) (j + 2)
+            pub roll-done : n - j < 2 → d ≡ c → Rolling k old base first set n new (bits / 4) (x + 2 * c) (j + 2)
             roll-done h e =
                 let w : j + 1 ≡ windowOf k = omega (arith, m .locations) in
                 let o = sweep-one at (small few) (omega arith) (words 1 s (e ∙ rw ce (omega arith))) in
                 let f = through-end (o .through) (omega arith) in
                 record { same = s .same ∙ g .same; before = λ q. absurd (omega arith); behind = λ q. rw f (o .held) }
 
-            roll-more : 2 ≤ n - j → d ≡ 2 * c → Rolling k old base first set n new (bits / 4) (x + 2 * c) (j + 2)
+            pub roll-more : 2 ≤ n - j → d ≡ 2 * c → Rolling k old base first set n new (bits / 4) (x + 2 * c) (j + 2)
             roll-more h e =
                 record {
                   same = s .same ∙ g .same;
@@ -364,15 +356,4 @@ module _ {k : Class} {n base : ℕ} {strips old : List ℕ} {first : ℕ} (m : S
                   behind = λ q. absurd (omega arith);
                 }
 
--- the strip that was added comes first, since it shows the rest
-pub roll-on-last : {k : Class} {base d : ℕ} {image new old strips : List ℕ} {first set n bits x j c : ℕ} → StripAdded k base d (bits % 4) x image new → d ≡ c → n - j < 2
-    → Rolling k old base first set n image bits x j → j < n → c ≡ bytesOf k → Spacious k n base strips old first → length old * 1 < 2 ^ 63
-    → Rolling k old base first set n new (bits / 4) (x + 2 * c) (j + 2)
-roll-on-last s e h g l ce m few = roll-done m g l ce few s h e
-
-pub roll-on-strip : {k : Class} {base d : ℕ} {image new old strips : List ℕ} {first set n bits x j c : ℕ} → StripAdded k base d (bits % 4) x image new → d ≡ 2 * c → 2 ≤ n - j
-    → Rolling k old base first set n image bits x j → j < n → c ≡ bytesOf k → Spacious k n base strips old first → length old * 1 < 2 ^ 63
-    → Rolling k old base first set n new (bits / 4) (x + 2 * c) (j + 2)
-roll-on-strip s e h g l ce m few = roll-more m g l ce few s h e
-
-pub ruleset rollings = (roll-begin, roll-two, roll-long, roll-end, roll-count, roll-less, roll-on, roll-last, roll-strip, roll-on-last, roll-on-strip, needs)
+pub ruleset rollings = (two-fit, roll-begin, roll-long, roll-end, roll-count, roll-less, roll-on, roll-last, roll-strip, needs)

@@ -1,7 +1,7 @@
 use borrow.Author.Needs.{needs}
 use mathlib.Core.Logic.{⊎-elim}
 use Prim.Native.Nat.{_-_}
-use Rattle.relr_apply.proofs.StripNeeds.{Rolling, rollings, roll-on-last, roll-on-strip}
+use Rattle.relr_apply.proofs.StripNeeds.{Rolling, rollings, roll-done, roll-more}
 use Rattle.relr_apply.proofs.patch_window.Statement.{statement}
 use Rattle.relr_apply.proofs.patch_window.Tie as tie
 use Rattle.relr_apply.proofs.patch_window.Reads as reads
@@ -52,7 +52,7 @@ loop-again c =
     let l = c .before .before .before .before .before .loop-test .taken in
     let ce = c .before .before .before .before .before .before .before .bytes .ensures in
     let m = c .before .before .before .before .before .before .before .before .before .before .pre in
-    ⊎-elim (λ w. roll-on-last strip (search needs) (search needs) g l ce m (search needs)) (λ w. roll-on-strip strip (search needs) (search needs) g l ce m (search needs))
+    ⊎-elim (λ w. roll-done m g l ce (search needs) strip (search needs) (search needs)) (λ w. roll-more m g l ce (search needs) strip (search needs) (search needs))
     (c .before .before .before .before .if1 .came)
 
 same-length : tie.Need-same-length Inv-loop μ-loop
