@@ -1,4 +1,4 @@
--- Where a number is refused with 5, once over the width B: exactly where its last allowed byte is `Guilty`. So the place is inside the
+-- Where a number is refused with 5, by either setting, once over the width B: exactly where its last allowed byte is `Guilty`. So the place is inside the
 -- input, not before the number's first byte, and every byte of the number before it has its top bit set.
 -- Assumes nothing.
 use mathlib.Core.Path.{_≡_, refl, sym, ap, _∙_, subst}
@@ -14,14 +14,13 @@ use lib.Dec.{ltb}
 use lib.Signed.{mag}
 use borrow.Author.Tests.{ltb-false}
 use Rattle.answer.specs.Bytes.{Bytes, bytes-drop}
-use Rattle.answer.specs.declared.Refusal.{Refusal}
 use Rattle.answer.specs.declared.Refusal.the-variants.{Width}
-use Rattle.leb128.specs.Number.{Raw, cut, long, got, raw, count, lastPlace, unsignedOf, readUnsigned, signed, signedOf, readSigned}
-use Rattle.leb128.specs.LastByte.{lastUnsigned, lastSigned, BadUnsigned, BadSigned, Guilty, OutsideUnsigned, OutsideSigned}
+use Rattle.leb128.specs.Number.{Raw, cut, long, got, raw, count, lastPlace, unsignedOf, laxUnsigned, signed, signedOf, laxSigned}
+use Rattle.leb128.specs.LastByte.{lastUnsigned, lastSigned, BadUnsigned, BadSigned, Guilty}
 use Rattle.leb128.specs.declared.Unsigned.the-variants.{Value as UValue, Refused as URefused}
 use Rattle.leb128.specs.declared.Signed.the-variants.{Value as SValue, Refused as SRefused}
 use Rattle.leb128.proofs.Reading.{count-is, next-le, Spent, spent-there, spent-unsigned, spent-signed}
-use Rattle.leb128.proofs.Laws.{GoodUnsigned, GoodSigned, unsigned-good, signed-good, Below, below}
+use Rattle.leb128.proofs.Laws.{Below, below}
 use Rattle.leb128.proofs.LastByte.{Digits, takes-unsigned, refuses-unsigned, takes-signed, refuses-signed}
 
 -- the bytes before the last allowed one
@@ -86,7 +85,7 @@ module _ (B : ℕ) (s : List ℕ) (at : ℕ) (wide : 0 < B) (bytes : Bytes s) wh
     place-is : at + length ds ≡ lastPlace B at
     place-is = omega (arith, size)
 
-    bad-unsigned : readUnsigned B s at ≡ URefused Width (lastPlace B at) → BadUnsigned B b
+    bad-unsigned : laxUnsigned B s at ≡ URefused Width (lastPlace B at) → BadUnsigned B b
     bad-unsigned e =
         elim (decLt b (lastUnsigned B)) [
           | yes h ↦
@@ -96,16 +95,16 @@ module _ (B : ℕ) (s : List ℕ) (at : ℕ) (wide : 0 < B) (bytes : Bytes s) wh
           | no h ↦ omega arith
         ]
 
-    unsigned-bad : BadUnsigned B b → readUnsigned B s at ≡ URefused Width (lastPlace B at)
+    unsigned-bad : BadUnsigned B b → laxUnsigned B s at ≡ URefused Width (lastPlace B at)
     unsigned-bad h = refuses-unsigned B s at b ds rest here wide digits sizes h ∙ ap (URefused Width) place-is
 
-    not-taken : readSigned B s at ≡ SRefused Width (lastPlace B at) → (b < lastSigned B) ⊎ ((128 - lastSigned B ≤ b) × (b < 128)) → ⊥
+    not-taken : laxSigned B s at ≡ SRefused Width (lastPlace B at) → (b < lastSigned B) ⊎ ((128 - lastSigned B ≤ b) × (b < 128)) → ⊥
     not-taken e h =
         let f = takes-signed B s at b ds rest here wide digits sizes h in
         let z : _≡_ {A = ℕ} 0 1 = cc in
         omega arith
 
-    bad-signed : readSigned B s at ≡ SRefused Width (lastPlace B at) → BadSigned B b
+    bad-signed : laxSigned B s at ≡ SRefused Width (lastPlace B at) → BadSigned B b
     bad-signed e =
         elim (decLt b 128) [
           | no h ↦ inl (omega arith)
@@ -120,7 +119,7 @@ module _ (B : ℕ) (s : List ℕ) (at : ℕ) (wide : 0 < B) (bytes : Bytes s) wh
               ]
         ]
 
-    signed-bad : BadSigned B b → readSigned B s at ≡ SRefused Width (lastPlace B at)
+    signed-bad : BadSigned B b → laxSigned B s at ≡ SRefused Width (lastPlace B at)
     signed-bad h = refuses-signed B s at b ds rest here wide digits sizes h ∙ ap (SRefused Width) place-is
 
   -- a 5 is at the last place, after as many bytes as the width allows
@@ -158,44 +157,22 @@ module _ (B : ℕ) (s : List ℕ) (at : ℕ) (wide : 0 < B) (bytes : Bytes s) wh
       (record { inside = rw is at (g .inside); before = rw is at (g .before) }, rw is at (g .bad))
 
   -- a number is refused with 5 exactly at a guilty byte
-  pub unsigned-guilty : {p : ℕ} → readUnsigned B s at ≡ URefused Width p → Guilty BadUnsigned B s at p
-  unfolding readUnsigned
+  pub unsigned-guilty : {p : ℕ} → laxUnsigned B s at ≡ URefused Width p → Guilty BadUnsigned B s at p
+  unfolding laxUnsigned
   unsigned-guilty e =
       let (is, spent) = outside-unsigned (raw (count B) (drop at s)) refl e in
       let full = spent-full spent in
       guilty is full (bad-unsigned full (e ∙ ap (URefused Width) is))
 
-  pub guilty-unsigned : {p : ℕ} → Guilty BadUnsigned B s at p → readUnsigned B s at ≡ URefused Width p
+  pub guilty-unsigned : {p : ℕ} → Guilty BadUnsigned B s at p → laxUnsigned B s at ≡ URefused Width p
   guilty-unsigned g = let (full, h) = guilty-full g in unsigned-bad full h ∙ ap (URefused Width) (sym (g .last))
 
-  pub signed-guilty : {p : ℕ} → readSigned B s at ≡ SRefused Width p → Guilty BadSigned B s at p
-  unfolding readSigned
+  pub signed-guilty : {p : ℕ} → laxSigned B s at ≡ SRefused Width p → Guilty BadSigned B s at p
+  unfolding laxSigned
   signed-guilty e =
       let (is, spent) = outside-signed (raw (count B) (drop at s)) refl e in
       let full = spent-full spent in
       guilty is full (bad-signed full (e ∙ ap (SRefused Width) is))
 
-  pub guilty-signed : {p : ℕ} → Guilty BadSigned B s at p → readSigned B s at ≡ SRefused Width p
+  pub guilty-signed : {p : ℕ} → Guilty BadSigned B s at p → laxSigned B s at ≡ SRefused Width p
   guilty-signed g = let (full, h) = guilty-full g in signed-bad full h ∙ ap (SRefused Width) (sym (g .last))
-
-  -- a refusal that is 5 tells of a number outside its width
-  pub unsigned-outside : {why : Refusal} {p : ℕ} → readUnsigned B s at ≡ URefused why p → why ≡ Width → OutsideUnsigned B s p
-  unsigned-outside {why} {p} e f = (at, unsigned-guilty (e ∙ ap (λ (w : Refusal). URefused w p) f))
-
-  pub signed-outside : {why : Refusal} {p : ℕ} → readSigned B s at ≡ SRefused why p → why ≡ Width → OutsideSigned B s p
-  signed-outside {why} {p} e f = (at, signed-guilty (e ∙ ap (λ (w : Refusal). SRefused w p) f))
-
-  -- the place of any refusal is within the input, or its end
-  pub unsigned-place : {why : Refusal} {p : ℕ} → readUnsigned B s at ≡ URefused why p → p ≤ length s
-  unsigned-place {why} {p} e = go (subst (GoodUnsigned B (length s) at) e (unsigned-good B s at))
-    where
-      go : GoodUnsigned B (length s) at (URefused why p) → p ≤ length s
-      go (inl (w, is)) = omega arith
-      go (inr (w, is)) = omega (arith, unsigned-outside e w .1 .inside)
-
-  pub signed-place : {why : Refusal} {p : ℕ} → readSigned B s at ≡ SRefused why p → p ≤ length s
-  signed-place {why} {p} e = go (subst (GoodSigned B (length s) at) e (signed-good B s at))
-    where
-      go : GoodSigned B (length s) at (SRefused why p) → p ≤ length s
-      go (inl (w, is)) = omega arith
-      go (inr (w, is)) = omega (arith, signed-outside e w .1 .inside)
