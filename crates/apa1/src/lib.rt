@@ -4,14 +4,14 @@ use answer::Answer;
 use answer::Found;
 use answer::Refusal;
 
-// The records of a table, into a column of offsets and one of addends.
-pub fn read(table: &[u8], offsets: &mut [u64], addends: &mut [i64]) -> Answer
-    ensures { λ r. ⌜ Reads (now (table .entry)) (now (offsets .entry)) (now (addends .entry)) r (now (offsets .exit)) (now (addends .exit)) ⌝ }
+// The records of a table, into a column of offsets and one of addends. Strictly a padded number is refused.
+pub fn read(strict: bool, table: &[u8], offsets: &mut [u64], addends: &mut [i64]) -> Answer
+    ensures { λ r. ⌜ Reads strict (now (table .entry)) (now (offsets .entry)) (now (addends .entry)) r (now (offsets .exit)) (now (addends .exit)) ⌝ }
 {
     if offsets.len() != addends.len() {
         return answer::refuse(Refusal::Columns, 0);
     }
-    match apa1_read::check(table) {
+    match apa1_read::check(strict, table) {
         Found::Refused(why, place) => answer::refuse(why, place),
         Found::Count(count) => {
             if (offsets.len() as u64) < count {

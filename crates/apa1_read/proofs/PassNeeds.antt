@@ -1,6 +1,7 @@
 -- What both passes go by, as the code asks it: x is what the reader of a record returned.
 -- Assumes nothing.
 use Prim.Native.Nat.{ℕ, _+_, _-_, _*_, _^_, _≤_, _<_}
+use mathlib.Core.Bool.{Bool}
 use mathlib.Core.Path.{_≡_, ap, sym, _∙_, subst}
 use mathlib.Core.List.{List, [], _∷_, _++_}
 use native.Mathlib.Omega.{arith}
@@ -35,46 +36,46 @@ use Rattle.apa1_table.specs.Inner.{Fillable}
 use Rattle.apa1_read.specs.Inner.{entryStep, Skips}
 
 -- the records of a table that has so many from a place on
-abbrev pub body : List ℕ → ℕ → ℕ → Outcome (List Row)
-body s n first = records (stepAt s) (length s) n first start
+abbrev pub body : Bool → List ℕ → ℕ → ℕ → Outcome (List Row)
+body strict s n first = records (stepAt strict s) (length s) n first start
 
 -- ---- the first pass: the records before a place led to some sums
-pub record Walking (s : List ℕ) (n first left at : ℕ) : Type 0 where
+pub record Walking (strict : Bool) (s : List ℕ) (n first left at : ℕ) : Type 0 where
   pub prev : Row
-  pub scanned : Scanned (stepAt s) (length s) (body s n first) n left at prev
+  pub scanned : Scanned (stepAt strict s) (length s) (body strict s n first) n left at prev
 
-pub walk-begin : (s : List ℕ) (n first : ℕ) → Walking s n first n first
-walk-begin s n first = record { prev = start; scanned = scanned-none (stepAt s) (length s) n first start }
+pub walk-begin : (strict : Bool) (s : List ℕ) (n first : ℕ) → Walking strict s n first n first
+walk-begin strict s n first = record { prev = start; scanned = scanned-none (stepAt strict s) (length s) n first start }
 
-module _ {s : List ℕ} {n first left at : ℕ} (i : Walking s n first left at) where
-  module _ (x : Signed) (h : 0 < left) (e : Skips s at x) where
-    pub walk-more : {z : ℤ} {past : ℕ} → x ≡ SValue z past → Walking s n first (left - 1) past
-    walk-more f = let (y, g) = subst (Skips s at) f e (i .prev) in record { prev = y; scanned = scanned-more (i .scanned) h g }
+module _ {strict : Bool} {s : List ℕ} {n first left at : ℕ} (i : Walking strict s n first left at) where
+  module _ (x : Signed) (h : 0 < left) (e : Skips strict s at x) where
+    pub walk-more : {z : ℤ} {past : ℕ} → x ≡ SValue z past → Walking strict s n first (left - 1) past
+    walk-more f = let (y, g) = subst (Skips strict s at) f e (i .prev) in record { prev = y; scanned = scanned-more (i .scanned) h g }
 
-    pub walk-bad : {k : Cause} {why : Refusal} {p : ℕ} → x ≡ SRefused why p → k ≡ signedCause x → found.Refused (k .why) (k .place) ≡ foundOf (body s n first)
-    walk-bad f g = scanned-bad (i .scanned) h (subst (Skips s at) (signed-cause f g) e (i .prev))
+    pub walk-bad : {k : Cause} {why : Refusal} {p : ℕ} → x ≡ SRefused why p → k ≡ signedCause x → found.Refused (k .why) (k .place) ≡ foundOf (body strict s n first)
+    walk-bad f g = scanned-bad (i .scanned) h (subst (Skips strict s at) (signed-cause f g) e (i .prev))
 
-  pub walk-end : left ≤ 0 → length s ≤ at → found.Count n ≡ foundOf (body s n first)
+  pub walk-end : left ≤ 0 → length s ≤ at → found.Count n ≡ foundOf (body strict s n first)
   walk-end h k = scanned-end (i .scanned) h k
 
-  pub walk-over : left ≤ 0 → at < length s → found.Refused Trailing at ≡ foundOf (body s n first)
+  pub walk-over : left ≤ 0 → at < length s → found.Refused Trailing at ≡ foundOf (body strict s n first)
   walk-over h k = scanned-over (i .scanned) h k
 
 pub ruleset walks = (walk-begin, walk-more, walk-bad, walk-end, walk-over, needs)
 
 -- ---- the second pass
 -- the records before a place stand in the columns, and w is the bits of the last addend
-pub record Storing (s : List ℕ) (n first : ℕ) (os₀ : List ℕ) (us₀ : List ℤ) (os : List ℕ) (us : List ℤ) (left at o w i : ℕ) : Type 0 where
+pub record Storing (strict : Bool) (s : List ℕ) (n first : ℕ) (os₀ : List ℕ) (us₀ : List ℤ) (os : List ℕ) (us : List ℤ) (left at o w i : ℕ) : Type 0 where
   pub list : List Row
-  pub stored : Stored (stepAt s) (length s) (body s n first) list left at (row o (toZ w64 w)) i
+  pub stored : Stored (stepAt strict s) (length s) (body strict s n first) list left at (row o (toZ w64 w)) i
   pub offsets : Column offsetOf list i os₀ os
   pub addends : Column addendOf list i us₀ us
 
-pub store-begin : (s : List ℕ) (n first : ℕ) (os : List ℕ) (us : List ℤ) → Storing s n first os us os us n first 0 0 0
-store-begin s n first os us =
-    record { list = []; stored = stored-none (stepAt s) (length s) n first start; offsets = column-none offsetOf os; addends = column-none addendOf us }
+pub store-begin : (strict : Bool) (s : List ℕ) (n first : ℕ) (os : List ℕ) (us : List ℤ) → Storing strict s n first os us os us n first 0 0 0
+store-begin strict s n first os us =
+    record { list = []; stored = stored-none (stepAt strict s) (length s) n first start; offsets = column-none offsetOf os; addends = column-none addendOf us }
 
-module _ {s : List ℕ} {n first : ℕ} {os₀ : List ℕ} {us₀ : List ℤ} {os : List ℕ} {us : List ℤ} {left at o w i : ℕ} (f : Fillable (body s n first) os₀ us₀) (g : Storing s n first os₀ us₀ os us left at o w i) where
+module _ {strict : Bool} {s : List ℕ} {n first : ℕ} {os₀ : List ℕ} {us₀ : List ℤ} {os : List ℕ} {us : List ℤ} {left at o w i : ℕ} (f : Fillable (body strict s n first) os₀ us₀) (g : Storing strict s n first os₀ us₀ os us left at o w i) where
   within : i ≤ length os₀
   within = stored-within (f .fitting) (g .stored)
 
@@ -84,8 +85,8 @@ module _ {s : List ℕ} {n first : ℕ} {os₀ : List ℕ} {us₀ : List ℤ} {o
   pub store-same-2 : length us ≡ length us₀
   store-same-2 = column-same (g .addends) (g .stored .long) (omega (arith, within, f .same))
 
-  module _ {x : Entry} (h : 0 < left) (e : entryStep x ≡ stepAt s at (row o (toZ w64 w))) where
-    pub store-bad : {why : Refusal} {p : ℕ} → x ≡ Refused why p → Filled (body s n first) os₀ us₀ os us
+  module _ {x : Entry} (h : 0 < left) (e : entryStep x ≡ stepAt strict s at (row o (toZ w64 w))) where
+    pub store-bad : {why : Refusal} {p : ℕ} → x ≡ Refused why p → Filled (body strict s n first) os₀ us₀ os us
     store-bad k = absurd (stored-bad (f .fitting) (g .stored) h (sym e ∙ ap entryStep k))
 
     module _ {o′ past : ℕ} {a : ℤ} (k : x ≡ Record o′ a past) where
@@ -104,7 +105,7 @@ module _ {s : List ℕ} {n first : ℕ} {os₀ : List ℕ} {us₀ : List ℤ} {o
       pub store-next : length os₀ < 2 ^ 64 → Fits w64 (i + 1)
       store-next q = record { fits = omega (arith, old-in) }
 
-      pub store-more : toZ w64 (ofZ w64 a) ≡ a → Storing s n first os₀ us₀ (set os i o′) (set us i (toZ w64 (ofZ w64 a))) (left - 1) past o′ (ofZ w64 a) (i + 1)
+      pub store-more : toZ w64 (ofZ w64 a) ≡ a → Storing strict s n first os₀ us₀ (set os i o′) (set us i (toZ w64 (ofZ w64 a))) (left - 1) past o′ (ofZ w64 a) (i + 1)
       store-more b =
           record {
             list = g .list ++ row o′ (toZ w64 (ofZ w64 a)) ∷ [];
@@ -113,7 +114,7 @@ module _ {s : List ℕ} {n first : ℕ} {os₀ : List ℕ} {us₀ : List ℤ} {o
             addends = column-next (g .addends) (g .stored .long) (row o′ (toZ w64 (ofZ w64 a))) (omega (arith, old-in, f .same));
           }
 
-  pub store-end : left ≤ 0 → Filled (body s n first) os₀ us₀ os us
+  pub store-end : left ≤ 0 → Filled (body strict s n first) os₀ us₀ os us
   store-end h =
       let d = stored-end (f .fitting) (g .stored) h in
       record {
@@ -124,36 +125,36 @@ module _ {s : List ℕ} {n first : ℕ} {os₀ : List ℕ} {us₀ : List ℤ} {o
 pub ruleset stores = (store-begin, store-same, store-same-2, store-bad, store-in, store-in-2, store-scaled, store-next, store-more, store-end, needs)
 
 -- ---- from the head on
-module _ (s : List ℕ) {u : Unsigned} (e : u ≡ headAt s) where
-  whole : {n first : ℕ} → u ≡ UValue n first → parse s ≡ body s n first
-  whole f = parse-is s ∙ counted-records (stepAt s) (length s) start (sym e ∙ f)
+module _ (strict : Bool) (s : List ℕ) {u : Unsigned} (e : u ≡ headAt strict s) where
+  whole : {n first : ℕ} → u ≡ UValue n first → parse strict s ≡ body strict s n first
+  whole f = parse-is strict s ∙ counted-records (stepAt strict s) (length s) start (sym e ∙ f)
 
-  pub scan-not : {k : Cause} {why : Refusal} {p : ℕ} → u ≡ URefused why p → k ≡ unsignedCause u → found.Refused (k .why) (k .place) ≡ foundOf (parse s)
-  scan-not f g = rw (parse-is s) (count-not (stepAt s) (length s) start (sym e ∙ f) (g ∙ ap unsignedCause e))
+  pub scan-not : {k : Cause} {why : Refusal} {p : ℕ} → u ≡ URefused why p → k ≡ unsignedCause u → found.Refused (k .why) (k .place) ≡ foundOf (parse strict s)
+  scan-not f g = rw (parse-is strict s) (count-not (stepAt strict s) (length s) start (sym e ∙ f) (g ∙ ap unsignedCause e))
 
-  pub scan-is : {n first : ℕ} {r : Found} → u ≡ UValue n first → r ≡ foundOf (body s n first) → r ≡ foundOf (parse s)
+  pub scan-is : {n first : ℕ} {r : Found} → u ≡ UValue n first → r ≡ foundOf (body strict s n first) → r ≡ foundOf (parse strict s)
   scan-is f g = g ∙ ap foundOf (sym (whole f))
 
-  module _ {os : List ℕ} {us : List ℤ} (f : Fillable (decode s) os us) where
-    all : {n first : ℕ} → u ≡ UValue n first → decode s ≡ body s n first
-    all g = decode-in s (decode-accepted s (f .fitting .is) .0) ∙ whole g
+  module _ {os : List ℕ} {us : List ℤ} (f : Fillable (decode strict s) os us) where
+    all : {n first : ℕ} → u ≡ UValue n first → decode strict s ≡ body strict s n first
+    all g = decode-in strict s (decode-accepted strict s (f .fitting .is) .0) ∙ whole g
 
-    pub fill-not : {why : Refusal} {p : ℕ} {os′ : List ℕ} {us′ : List ℤ} → u ≡ URefused why p → Filled (decode s) os us os′ us′
-    fill-not g = absurd (accepted-refused (decode-accepted s (f .fitting .is) .1) (parse-is s ∙ counted-not (stepAt s) (length s) start (sym e ∙ g)))
+    pub fill-not : {why : Refusal} {p : ℕ} {os′ : List ℕ} {us′ : List ℤ} → u ≡ URefused why p → Filled (decode strict s) os us os′ us′
+    fill-not g = absurd (accepted-refused (decode-accepted strict s (f .fitting .is) .1) (parse-is strict s ∙ counted-not (stepAt strict s) (length s) start (sym e ∙ g)))
 
-    pub fill-able : {n first : ℕ} → u ≡ UValue n first → Fillable (body s n first) os us
+    pub fill-able : {n first : ℕ} → u ≡ UValue n first → Fillable (body strict s n first) os us
     fill-able g = rw (← all g) f
 
-    pub fill-is : {n first : ℕ} {os′ : List ℕ} {us′ : List ℤ} → u ≡ UValue n first → Filled (body s n first) os us os′ us′ → Filled (decode s) os us os′ us′
+    pub fill-is : {n first : ℕ} {os′ : List ℕ} {us′ : List ℤ} → u ≡ UValue n first → Filled (body strict s n first) os us os′ us′ → Filled (decode strict s) os us os′ us′
     fill-is g h = rw (all g) h
 
 pub ruleset fills = (scan-not, scan-is, fill-not, fill-able, fill-is, needs)
 
 -- ---- the limit in front
-pub check-over : (s : List ℕ) → inputLimit < length s → found.Refused Limit 0 ≡ foundOf (decode s)
-check-over s h = sym (found-refused (decode-over s h))
+pub check-over : (strict : Bool) (s : List ℕ) → inputLimit < length s → found.Refused Limit 0 ≡ foundOf (decode strict s)
+check-over strict s h = sym (found-refused (decode-over strict s h))
 
-pub check-in : (s : List ℕ) {r : Found} → length s ≤ inputLimit → r ≡ foundOf (parse s) → r ≡ foundOf (decode s)
-check-in s h e = e ∙ ap foundOf (sym (decode-in s h))
+pub check-in : (strict : Bool) (s : List ℕ) {r : Found} → length s ≤ inputLimit → r ≡ foundOf (parse strict s) → r ≡ foundOf (decode strict s)
+check-in strict s h e = e ∙ ap foundOf (sym (decode-in strict s h))
 
 pub ruleset checks = (check-over, check-in, needs)

@@ -2,6 +2,7 @@
 -- Assumes nothing.
 use Prim.Native.Nat.{ℕ}
 use mathlib.Core.Path.{_≡_}
+use mathlib.Core.Bool.{Bool}
 use mathlib.Core.List.{List}
 use Rattle.leb128.specs.declared.Signed.{Signed}
 use Rattle.leb128.specs.declared.Signed.the-variants.{Value as SValue, Refused as SRefused}
@@ -16,6 +17,6 @@ entryStep (Record o a past) = one (row o a) past (row o a)
 entryStep (Refused why p) = none why p
 
 -- what two numbers at a place are, whatever record stands before: a record that ends where the second does, or a refusal
-abbrev pub Skips : List ℕ → ℕ → Signed → Type 0
-Skips s at (SValue z past) = (prev : Row) → (x : Row) × (stepAt s at prev ≡ one x past x)
-Skips s at (SRefused why p) = (prev : Row) → stepAt s at prev ≡ none why p
+abbrev pub Skips : Bool → List ℕ → ℕ → Signed → Type 0
+Skips strict s at (SValue z past) = (prev : Row) → (x : Row) × (stepAt strict s at prev ≡ one x past x)
+Skips strict s at (SRefused why p) = (prev : Row) → stepAt strict s at prev ≡ none why p

@@ -2,6 +2,7 @@
 -- is negative, and the place is that of the count's first byte.
 -- Assumes nothing.
 use Prim.Native.Nat.{ℕ}
+use mathlib.Core.Bool.{Bool}
 use mathlib.Core.List.{List}
 use mathlib.Core.Logic.{inl, inr}
 use mathlib.Core.Path.{_≡_, refl}
@@ -12,7 +13,7 @@ use Rattle.answer.specs.Bytes.{Bytes}
 use Rattle.answer.specs.Outcome.{refused, inputLimit}
 use Rattle.answer.specs.Said.{Said, OfOutcome, of-refused, of-limited}
 use Rattle.leb128.specs.Number.{readSigned}
-use Rattle.leb128.proofs.GuiltyByte.{signed-outside}
+use Rattle.leb128.proofs.Setting.{signed-outside}
 use Rattle.records.proofs.Refusals.{OfFive, another, OfSigned, of-signed}
 use Rattle.apa1_table.specs.Table.{parse, decode}
 use Rattle.apa1_table.specs.GuiltyByte.{WidthFault}
@@ -23,15 +24,15 @@ module _ (s : List ℕ) (bytes : Bytes s) where
   abbrev Five : Said
   Five = OfFive (WidthFault s)
 
-  number : (at : ℕ) → OfSigned Five (readSigned 64 s at)
-  number at = of-signed Five (readSigned 64 s at) (λ why p e f. inl (signed-outside 64 s at (omega arith) bytes e f))
+  number : (strict : Bool) (at : ℕ) → OfSigned Five (readSigned strict 64 s at)
+  number strict at = of-signed Five (readSigned strict 64 s at) (λ why p e f. inl (signed-outside strict 64 s at (omega arith) bytes e f))
 
-  whole : OfOutcome Five (decode s)
+  whole : (strict : Bool) → OfOutcome Five (decode strict s)
   unfolding decode
-  whole =
-      of-limited Five inputLimit (length s) (parse s) (another (WidthFault s) Limit 0 (λ e. omega arith))
-      (λ h. of-parse Five s (another (WidthFault s) Identifier 0 (λ e. omega arith)) number
+  whole strict =
+      of-limited Five inputLimit (length s) (parse strict s) (another (WidthFault s) Limit 0 (λ e. omega arith))
+      (λ h. of-parse Five strict s (another (WidthFault s) Identifier 0 (λ e. omega arith)) number
       (λ n next e f. inr (refl, (n, next, e))) (λ at k. another (WidthFault s) Trailing at (λ e. omega arith)))
 
-  pub decode-guilty : {p : ℕ} → decode s ≡ refused Width p → WidthFault s p
-  decode-guilty e = of-refused Five e whole refl
+  pub decode-guilty : (strict : Bool) {p : ℕ} → decode strict s ≡ refused Width p → WidthFault s p
+  decode-guilty strict e = of-refused Five e (whole strict) refl

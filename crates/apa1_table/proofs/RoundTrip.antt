@@ -2,7 +2,7 @@
 -- Assumes nothing.
 use Prim.Native.Nat.{ℕ, _+_, _*_, _^_, _≤_, _<_}
 use mathlib.Core.Path.{_≡_, refl, ap, ap₂, sym, _∙_}
-use mathlib.Core.Bool.{true}
+use mathlib.Core.Bool.{Bool, true, false}
 use mathlib.Core.List.{List, [], _∷_, _++_, map, append-assoc}
 use native.Mathlib.Omega.{arith}
 use lib.IntN.{ℤ, pos, _+ℤ_, _-ℤ_}
@@ -26,8 +26,8 @@ use Rattle.records.proofs.Writing.{after-accepted}
 use Rattle.records.proofs.RoundTrip.{puts-accepted, puts-most, signed-here, back}
 use Rattle.wrap.specs.Wrap.{residue, wrapped}
 use Rattle.wrap.specs.Wrap.Laws.{wrapped-range, back-residue, back-wrapped, residue-small}
-use Rattle.apa1_table.specs.Table.{Row, row, start, identifier, stepAt, headAt, parse, decode, rows, entryBytes, putOf, behind, headOf, build, encode}
-use Rattle.apa1_table.specs.Table.Laws.{step-is, head-is, count-other, parse-is, decode-in, rows-length, rows-from, build-is, encode-in, encode-accepted, head-bytes, entry-bytes, entry-most, head-most}
+use Rattle.apa1_table.specs.Table.{Row, row, start, identifier, stepAt, plain, headAt, parse, decode, rows, entryBytes, putOf, behind, headOf, build, encode}
+use Rattle.apa1_table.specs.Table.Laws.{step-is, head-is, count-other, plain-is, parse-is, decode-in, rows-length, rows-from, build-is, encode-in, encode-accepted, head-bytes, entry-bytes, entry-most, head-most}
 use Rattle.apa1_table.specs.Contract.{offsetOf, addendOf}
 
 -- ---- every list has a table
@@ -56,9 +56,9 @@ abbrev pub Fine : Row → Type 0
 Fine x = (x .offset < 2 ^ 64) × (mag (x .addend) < 2 ^ 63)
 
 -- a record's bytes read back as that record, wherever they stand
-record-back : (pre post b : List ℕ) (prev x : Row) → Unit {0} → Fine x → putOf prev x ≡ bytes b
-    → (stepAt (pre ++ (b ++ post)) (length pre) prev ≡ one x (length pre + length b) x) × Unit {0}
-record-back pre post b prev x g f e =
+record-back : (strict : Bool) (pre post b : List ℕ) (prev x : Row) → Unit {0} → Fine x → putOf prev x ≡ bytes b
+    → (stepAt strict (pre ++ (b ++ post)) (length pre) prev ≡ one x (length pre + length b) x) × Unit {0}
+record-back strict pre post b prev x g f e =
     let d = wrapped 64 (pos (x .offset) -ℤ pos (prev .offset)) in
     let a = wrapped 64 (x .addend -ℤ prev .addend) in
     let w : 0 < 64 = omega arith in
@@ -66,26 +66,27 @@ record-back pre post b prev x g f e =
     let s = pre ++ (b ++ post) in
     let p : s ≡ pre ++ (shortSigned d ++ (shortSigned a ++ post)) = ap (λ (m : List ℕ). pre ++ (m ++ post)) k ∙ ap (λ (m : List ℕ). pre ++ m) (append-assoc (shortSigned d) (shortSigned a) post) in
     let q : s ≡ (pre ++ shortSigned d) ++ (shortSigned a ++ post) = p ∙ sym (append-assoc pre (shortSigned d) (shortSigned a ++ post)) in
-    let r = signed-here 64 s pre (shortSigned a ++ post) (length pre) w refl d (wrapped-range 64 w _) p in
-    let t = signed-here 64 s (pre ++ shortSigned d) post (length (pre ++ shortSigned d)) w refl a (wrapped-range 64 w _) q in
+    let r = signed-here strict 64 s pre (shortSigned a ++ post) (length pre) w refl d (wrapped-range 64 w _) p in
+    let t = signed-here strict 64 s (pre ++ shortSigned d) post (length (pre ++ shortSigned d)) w refl a (wrapped-range 64 w _) q in
     let u : x ≡ row (residue 64 (pos (prev .offset) +ℤ d)) (wrapped 64 (prev .addend +ℤ a)) =
     ap₂ row (sym (back-residue 64 w (pos (prev .offset)) (pos (x .offset)) ∙ residue-small 64 (x .offset) (f .0))) (sym (back-wrapped 64 w (prev .addend) (x .addend) (f .1))) in
     let v : length ((pre ++ shortSigned d) ++ shortSigned a) ≡ length pre + length b =
     omega (arith, length-append (pre ++ shortSigned d) (shortSigned a), length-append pre (shortSigned d), ap length k, length-append (shortSigned d) (shortSigned a)) in
-    (step-is s (length pre) prev r t u ∙ ap (λ (n : ℕ). one x n x) v, tt)
+    (step-is strict s (length pre) prev r t u ∙ ap (λ (n : ℕ). one x n x) v, tt)
 
 -- the whole table
-parse-build : (l : List Row) {b : List ℕ} → length l < 2 ^ 63 → Each Fine l → build l ≡ accepted b → parse b ≡ accepted l
-parse-build l {b} few fine e =
+parse-build : (strict : Bool) (l : List Row) {b : List ℕ} → length l < 2 ^ 63 → Each Fine l → build l ≡ accepted b → parse strict b ≡ accepted l
+parse-build strict l {b} few fine e =
     let c = Outcome.behind (headOf (length l)) (puts putOf behind 0 start l) (sym (build-is l) ∙ e) in
     let n = shortSigned (pos (length l)) in
     let p : b ≡ identifier ++ (n ++ c .rest) = c .whole ∙ ap (λ (m : List ℕ). m ++ c .rest) (head-bytes (length l)) ∙ append-assoc identifier n (c .rest) in
     let i : startsWith identifier b ≡ true = ap (startsWith identifier) p ∙ starts-same identifier (n ++ c .rest) in
-    let r : readSigned 64 b 4 ≡ Value (pos (length l)) (length (headOf (length l))) =
-    signed-here 64 b identifier (c .rest) 4 (omega arith) refl (pos (length l)) few p ∙ ap (λ (m : List ℕ). Value (pos (length l)) (length m)) (sym (head-bytes (length l))) in
-    let h : headAt b ≡ UValue (length l) (length (headOf (length l))) = head-is b i r ∙ count-other (pos (length l)) _ refl in
-    parse-is b ∙ counted-records (stepAt b) (length b) start h ∙
-    rw (c .whole) (back stepAt putOf behind (λ (x : Row). Unit {0}) Fine record-back l 0 start (headOf (length l)) tt fine (c .is))
+    let r : (strict : Bool) → readSigned strict 64 b 4 ≡ Value (pos (length l)) (length (headOf (length l))) =
+    (λ strict. signed-here strict 64 b identifier (c .rest) 4 (omega arith) refl (pos (length l)) few p ∙ ap (λ (m : List ℕ). Value (pos (length l)) (length m)) (sym (head-bytes (length l)))) in
+    let h : headAt strict b ≡ UValue (length l) (length (headOf (length l))) =
+    head-is strict b i (r false) ∙ count-other (pos (length l)) _ _ refl ∙ ap plain (r strict) ∙ plain-is (pos (length l)) _ in
+    parse-is strict b ∙ counted-records (stepAt strict b) (length b) start h ∙
+    rw (c .whole) (back (stepAt strict) putOf behind (λ (x : Row). Unit {0}) Fine (record-back strict) l 0 start (headOf (length l)) tt fine (c .is))
 
 -- ---- a list is written exactly where it is within its limit
 pub encode-accepts : (l : List Row) → length l ≤ listLimit → Accepts (encode l)
@@ -103,8 +104,8 @@ pub encode-fits : (l : List Row) {b : List ℕ} → encode l ≡ accepted b → 
 encode-fits l e = omega (arith, encode-most l e, encode-legal l e, list-most)
 
 -- the round trip: it decodes to the list
-pub decode-encode : (l : List Row) {b : List ℕ} → encode l ≡ accepted b → Each Fine l → decode b ≡ accepted l
-decode-encode l {b} e f = let (h, g) = encode-accepted l e in decode-in b (encode-fits l e) ∙ parse-build l (omega (arith, list-small)) f g
+pub decode-encode : (strict : Bool) (l : List Row) {b : List ℕ} → encode l ≡ accepted b → Each Fine l → decode strict b ≡ accepted l
+decode-encode strict l {b} e f = let (h, g) = encode-accepted l e in decode-in strict b (encode-fits l e) ∙ parse-build strict l (omega (arith, list-small)) f g
 
 -- ---- the records of two columns
 module _ (os : List ℕ) (us : List ℤ) (same : length os ≡ length us) where

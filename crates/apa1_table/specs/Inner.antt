@@ -1,6 +1,7 @@
 -- What the inner functions promise.
 -- Assumes nothing.
 use Prim.Native.Nat.{ℕ, _≤_}
+use mathlib.Core.Bool.{Bool}
 use mathlib.Core.Path.{_≡_}
 use mathlib.Core.List.{List}
 use lib.IntN.{ℤ}
@@ -24,7 +25,7 @@ pub record Listed (os : List ℕ) (us : List ℤ) : Type 0 where
 -- f is what the first pass finds of two columns, whose elements it has seen: each is in its type's range, so that the table reads back
 pub record Measures (os : List ℕ) (us : List ℤ) (f : Found) : Type 0 where
   pub found : f ≡ foundOf (encode (rows os us))
-  pub back : (b : List ℕ) → encode (rows os us) ≡ accepted b → decode b ≡ accepted (rows os us)
+  pub back : (strict : Bool) (b : List ℕ) → encode (rows os us) ≡ accepted b → decode strict b ≡ accepted (rows os us)
 
 -- bytes that two columns have, and room for them at a place
 pub record Puttable (o : Outcome (List ℕ)) (os : List ℕ) (us : List ℤ) (buffer : List ℕ) (at : ℕ) : Type 0 where

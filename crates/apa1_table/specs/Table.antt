@@ -2,9 +2,10 @@
 -- Assumes nothing.
 use Prim.Native.Nat.{ℕ}
 use mathlib.Core.List.{List, [], _∷_, _++_, map}
-use mathlib.Core.Bool.{cond}
+use mathlib.Core.Bool.{Bool, false, cond}
 use lib.IntN.{ℤ, pos, negsuc, _+ℤ_, _-ℤ_}
 use lib.ListN.{length}
+use lib.Signed.{mag}
 use Rattle.answer.specs.declared.Refusal.the-variants.{Identifier, Width}
 use Rattle.answer.specs.Outcome.{Outcome, inputLimit, listLimit, limited, after}
 use Rattle.leb128.specs.Number.{readSigned, shortSigned}
@@ -18,6 +19,7 @@ use Rattle.records.specs.Reading.{Step, one, none, counted}
 use Rattle.records.specs.Writing.{Put, bytes, puts}
 use Rattle.wrap.specs.Wrap.{residue, wrapped}
 pub mod Laws
+pub mod Setting
 
 -- a record
 pub record Row : Type 0 where
@@ -36,7 +38,7 @@ start = row 0 (pos 0)
 abbrev pub identifier : List ℕ
 identifier = 0x41 ∷ 0x50 ∷ 0x41 ∷ 0x31 ∷ []
 
--- ---- reading
+-- ---- reading, by the setting: whether it is strict, so that a number longer than its shortest form is refused
 
 -- the record whose differences are d and the number given, after the record before it: both sums wrap at 64 bits
 unfoldable pub secondOf : Row → ℤ → Signed → Step Row Row
@@ -46,31 +48,37 @@ secondOf prev d (Value e past) =
 secondOf prev d (Refused why p) = none why p
 
 -- the same from the number that is the offset's difference on
-unfoldable pub firstOf : List ℕ → Row → Signed → Step Row Row
-firstOf s prev (Value d next) = secondOf prev d (readSigned 64 s next)
-firstOf s prev (Refused why p) = none why p
+unfoldable pub firstOf : Bool → List ℕ → Row → Signed → Step Row Row
+firstOf strict s prev (Value d next) = secondOf prev d (readSigned strict 64 s next)
+firstOf strict s prev (Refused why p) = none why p
 
 -- the record at a place: two signed numbers of 64 bits, the offset's difference and the addend's
-unfoldable pub stepAt : List ℕ → ℕ → Row → Step Row Row
-stepAt s at prev = firstOf s prev (readSigned 64 s at)
+unfoldable pub stepAt : Bool → List ℕ → ℕ → Row → Step Row Row
+stepAt strict s at prev = firstOf strict s prev (readSigned strict 64 s at)
 
--- a count, which may not be negative: that is refused at its first byte
-unfoldable pub countOf : Signed → Unsigned
-countOf (Value (pos n) first) = UValue n first
-countOf (Value (negsuc n) first) = URefused Width (length identifier)
-countOf (Refused why p) = URefused why p
+-- a signed number that is not negative, as a count
+unfoldable pub plain : Signed → Unsigned
+plain (Value z first) = UValue (mag z) first
+plain (Refused why p) = URefused why p
+
+-- a count, by lax reading and by the setting: it may not be negative, which is refused at its first byte, also where the number is padded
+unfoldable pub countOf : Signed → Signed → Unsigned
+countOf (Value (pos n) first) u = plain u
+countOf (Value (negsuc n) first) u = URefused Width (length identifier)
+countOf (Refused why p) u = URefused why p
 
 -- the identifier and the count: a signed number of 64 bits
-unfoldable pub headAt : List ℕ → Unsigned
-headAt s = cond (startsWith identifier s) (countOf (readSigned 64 s (length identifier))) (URefused Identifier 0)
+unfoldable pub headAt : Bool → List ℕ → Unsigned
+headAt strict s =
+    cond (startsWith identifier s) (countOf (readSigned false 64 s (length identifier)) (readSigned strict 64 s (length identifier))) (URefused Identifier 0)
 
 -- what the bytes say, however many they are: the identifier, the count, and that many records
-unfoldable pub parse : List ℕ → Outcome (List Row)
-parse s = counted (stepAt s) (length s) start (headAt s)
+unfoldable pub parse : Bool → List ℕ → Outcome (List Row)
+parse strict s = counted (stepAt strict s) (length s) start (headAt strict s)
 
 -- the list that a table decodes to, or its refusal: 2, then those along the stream
-unfoldable pub decode : List ℕ → Outcome (List Row)
-decode s = limited inputLimit (length s) (parse s)
+unfoldable pub decode : Bool → List ℕ → Outcome (List Row)
+decode strict s = limited inputLimit (length s) (parse strict s)
 
 -- ---- writing
 

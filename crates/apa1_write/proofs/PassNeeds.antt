@@ -73,7 +73,7 @@ module _ {os : List ℕ} {us : List ℤ} {total o w i : ℕ} (l : Listed os us) 
       let n = rows-length os us (l .same) in
       record {
         found = sized-end (g .sized) (omega arith) ∙ ap foundOf (sym (encode-in (rows os us) (omega (arith, l .few))));
-        back = λ b f. decode-encode (rows os us) f (rows-fine os us (l .same) (λ j k. (wide j .fits, g .small j (omega arith))));
+        back = λ strict b f. decode-encode strict (rows os us) f (rows-fine os us (l .same) (λ j k. (wide j .fits, g .small j (omega arith))));
       }
 
 pub ruleset sizes = (size-few, size-begin, size-sum, size-more, size-end, needs)
@@ -83,7 +83,7 @@ module _ {os : List ℕ} {us : List ℤ} (same : length os ≡ length us) where
   pub measure-over : listLimit < length os → Measures os us (found.Refused Limit 0)
   measure-over h =
       let e = encode-over (rows os us) (omega (arith, rows-length os us same)) in
-      record { found = sym (found-refused e); back = λ b f. absurd (accepted-refused f e) }
+      record { found = sym (found-refused e); back = λ strict b f. absurd (accepted-refused f e) }
 
 pub ruleset measures = (measure-over, needs)
 

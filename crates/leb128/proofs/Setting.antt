@@ -13,6 +13,8 @@ use lib.Seq.{sets, sets-eq, drop-at, length-take-le, drop-append-seam}
 use lib.IntN.{ℤ}
 use lib.Signed.{mag}
 use Rattle.answer.specs.Bytes.{Bytes}
+use Rattle.answer.specs.Said.{Said}
+use Rattle.answer.specs.Unless.{Unless, same, but}
 use Rattle.answer.specs.Written.{Written}
 use Rattle.answer.specs.declared.Refusal.{Refusal}
 use Rattle.answer.specs.declared.Refusal.the-variants.{Missing, Width, Padded}
@@ -160,6 +162,32 @@ module _ (B : ℕ) (s : List ℕ) (at : ℕ) where
   pub strict-most-signed : {z : ℤ} {next : ℕ} → readSigned true B s at ≡ SValue z next → next ≤ at + length (shortSigned z)
   unfolding readSigned
   strict-most-signed {z} {next} e = omega (arith, strict-not (shortSigned z) (next - at) (let-signed true at (laxSigned B s at) e .1))
+
+-- ---- what a setting reads is what lax reading does, unless it refuses a padded number
+module _ (P : Said) (says : (p : ℕ) → P Padded p) (t : Bool) (B : ℕ) (s : List ℕ) (at : ℕ) where
+  pub unless-unsigned : Unless URefused P (readUnsigned t B s at) (readUnsigned false B s at)
+  unfolding readUnsigned
+  unless-unsigned = go (laxUnsigned B s at)
+    where
+      go : (r : Unsigned) → Unless URefused P (unpaddedUnsigned t at r) (unpaddedUnsigned false at r)
+      go (URefused why p) = same refl
+      go (UValue v next) = of-test (padded t (shortUnsigned v) (next - at))
+        where
+          of-test : (b : Bool) → Unless URefused P (cond b (URefused Padded at) (UValue v next)) (UValue v next)
+          of-test true = but Padded at refl (says at)
+          of-test false = same refl
+
+  pub unless-signed : Unless SRefused P (readSigned t B s at) (readSigned false B s at)
+  unfolding readSigned
+  unless-signed = go (laxSigned B s at)
+    where
+      go : (r : Signed) → Unless SRefused P (unpaddedSigned t at r) (unpaddedSigned false at r)
+      go (SRefused why p) = same refl
+      go (SValue z next) = of-test (padded t (shortSigned z) (next - at))
+        where
+          of-test : (b : Bool) → Unless SRefused P (cond b (SRefused Padded at) (SValue z next)) (SValue z next)
+          of-test true = but Padded at refl (says at)
+          of-test false = same refl
 
 -- ---- the shortest form is read by either setting
 module _ (t : Bool) (B : ℕ) (s : List ℕ) (at : ℕ) (rest : List ℕ) (wide : 0 < B) where

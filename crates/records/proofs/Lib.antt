@@ -4,3 +4,4 @@ pub mod RoundTrip
 pub mod Identifier
 pub mod Refusals
 pub mod Bounds
+pub mod Unless

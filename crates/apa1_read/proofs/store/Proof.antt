@@ -1,10 +1,11 @@
+use mathlib.Core.Bool.{false}
 use Rattle.apa1_read.proofs.PassNeeds.{Storing, stores}
 use Rattle.apa1_read.proofs.store.Statement.{statement}
 use Rattle.apa1_read.proofs.store.Tie as tie
 
 abbrev Inv-loop : tie.InvT-loop
 Inv-loop s count first offsets₀ addends₀ rest₀ from₀ offset₀ addend₀ i₀ offsets addends rest from offset addend i =
-    Storing s count first offsets₀ addends₀ offsets addends rest from offset addend i
+    Storing false s count first offsets₀ addends₀ offsets addends rest from offset addend i
 
 abbrev μ-loop : tie.MeasureT-loop
 μ-loop s count first offsets₀ addends₀ rest₀ from₀ offset₀ addend₀ i₀ offsets addends rest from offset addend i =

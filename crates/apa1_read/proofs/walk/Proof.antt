@@ -3,10 +3,10 @@ use Rattle.apa1_read.proofs.walk.Statement.{statement}
 use Rattle.apa1_read.proofs.walk.Tie as tie
 
 abbrev Inv-loop : tie.InvT-loop
-Inv-loop s count first left₀ at₀ left at = Walking s count first left at
+Inv-loop strict s count first left₀ at₀ left at = Walking strict s count first left at
 
 abbrev μ-loop : tie.MeasureT-loop
-μ-loop s count first left₀ at₀ left at = left
+μ-loop strict s count first left₀ at₀ left at = left
 
 loop-holds : tie.Need-loop-holds Inv-loop μ-loop
 loop-holds c = search walks

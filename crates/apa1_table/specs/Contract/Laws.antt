@@ -1,6 +1,7 @@
 -- The cases of a call's outcome, and what each makes of the contract.
 -- Assumes nothing.
 use Prim.Native.Nat.{ℕ, _≤_, _<_}
+use mathlib.Core.Bool.{Bool, false}
 use mathlib.Core.Path.{_≡_, ap, sym, _∙_}
 use mathlib.Core.List.{List}
 use native.Mathlib.Omega.{arith}
@@ -18,16 +19,17 @@ use Rattle.answer.specs.Outcome.Laws.{accepted-refused, answer-fits, answer-lon
 use Rattle.records.specs.Writing.{Fits, Puts}
 use Rattle.records.proofs.Writing.{puts-filled}
 use Rattle.apa1_table.specs.Table.{Row, decode, rows, encode}
+use Rattle.apa1_table.specs.Table.Setting.{decode-lax}
 use Rattle.apa1_table.specs.Contract.{offsetOf, addendOf, decoding, Filled, Reads, encoding, Writes}
 use Rattle.apa1_table.specs.Inner.{Fillable, Measures}
 
 -- ---- reading
-module _ (s : List ℕ) (m k : ℕ) where
-  read-uneven : (m ≡ k → ⊥) → decoding s m k ≡ refused Columns 0
+module _ (strict : Bool) (s : List ℕ) (m k : ℕ) where
+  read-uneven : (m ≡ k → ⊥) → decoding strict s m k ≡ refused Columns 0
   unfolding decoding
   read-uneven h = rw (ne-eqb m k h)
 
-  pub read-plain : m ≡ k → decoding s m k ≡ decode s
+  pub read-plain : m ≡ k → decoding strict s m k ≡ decode strict s
   unfolding decoding
   read-plain h = rw (eq-eqb m k h)
 
@@ -39,33 +41,34 @@ module _ {o : Outcome (List Row)} (os : List ℕ) (us : List ℤ) where
   kept-long : {k : ℕ} → Counted o k → length os < k → length os ≡ length us → Filled o os us os us
   kept-long c h same = record { offsets = sym (filled-long offsetOf os c h); addends = sym (filled-long addendOf us c (omega arith)) }
 
-module _ (s os : List ℕ) (us : List ℤ) where
-  refuses : {r : Answer} {why : Refusal} {p : ℕ} → r ≡ refusal why p → decoding s (length os) (length us) ≡ refused why p → Reads s os us r os us
+module _ (strict : Bool) (s os : List ℕ) (us : List ℤ) where
+  refuses : {r : Answer} {why : Refusal} {p : ℕ} → r ≡ refusal why p → decoding strict s (length os) (length us) ≡ refused why p → Reads strict s os us r os us
   refuses a e = record { answer = a ∙ sym (answer-refused (length os) e); columns = kept-refused os us e }
 
-  pub reads-uneven : {r : Answer} → r ≡ refusal Columns 0 → (length os ≡ length us → ⊥) → Reads s os us r os us
-  reads-uneven a h = refuses a (read-uneven s (length os) (length us) h)
+  pub reads-uneven : {r : Answer} → r ≡ refusal Columns 0 → (length os ≡ length us → ⊥) → Reads strict s os us r os us
+  reads-uneven a h = refuses a (read-uneven strict s (length os) (length us) h)
 
   -- f is what the first pass found
-  module _ {f : Found} (e : f ≡ foundOf (decode s)) (same : length os ≡ length us) where
-    plain : decoding s (length os) (length us) ≡ decode s
-    plain = read-plain s (length os) (length us) same
+  module _ {f : Found} (e : f ≡ foundOf (decode strict s)) (same : length os ≡ length us) where
+    plain : decoding strict s (length os) (length us) ≡ decode strict s
+    plain = read-plain strict s (length os) (length us) same
 
-    pub reads-not : {r : Answer} {why : Refusal} {p : ℕ} → f ≡ found.Refused why p → r ≡ refusal why p → Reads s os us r os us
-    reads-not g a = refuses a (plain ∙ not-found (decode s) (sym e ∙ g))
+    pub reads-not : {r : Answer} {why : Refusal} {p : ℕ} → f ≡ found.Refused why p → r ≡ refusal why p → Reads strict s os us r os us
+    reads-not g a = refuses a (plain ∙ not-found (decode strict s) (sym e ∙ g))
 
     module _ {k : ℕ} (g : f ≡ found.Count k) where
-      all : Counted (decode s) k
-      all = found-count (decode s) (sym e ∙ g)
+      all : Counted (decode strict s) k
+      all = found-count (decode strict s) (sym e ∙ g)
 
-      pub reads-long : {r : Answer} → r ≡ noRoom k → length os < k → Reads s os us r os us
+      pub reads-long : {r : Answer} → r ≡ noRoom k → length os < k → Reads strict s os us r os us
       reads-long a h = let p = plain in record { answer = a ∙ rw p (sym (answer-long (length os) all h)); columns = rw p (kept-long os us all h same) }
 
-      pub fillable : k ≤ length os → Fillable (decode s) os us
-      fillable h = record { fitting = record { list = all .list; is = all .is; fits = omega (arith, all .long) }; same = same }
+      -- the second pass is lax: what the first accepted is the same list so
+      pub fillable : k ≤ length os → Fillable (decode false s) os us
+      fillable h = record { fitting = record { list = all .list; is = decode-lax strict s (all .is) ∙ all .is; fits = omega (arith, all .long) }; same = same }
 
-      pub reads-full : {r : Answer} {os′ : List ℕ} {us′ : List ℤ} → r ≡ success k → k ≤ length os → Filled (decode s) os us os′ us′ → Reads s os us r os′ us′
-      reads-full a h d = let p = plain in record { answer = a ∙ rw p (sym (answer-fits (length os) all h)); columns = rw p d }
+      pub reads-full : {r : Answer} {os′ : List ℕ} {us′ : List ℤ} → r ≡ success k → k ≤ length os → Filled (decode false s) os us os′ us′ → Reads strict s os us r os′ us′
+      reads-full a h d = let p = plain ∙ sym (decode-lax strict s (all .is)) in let c = all in record { answer = a ∙ rw plain (sym (answer-fits (length os) c h)); columns = rw p d }
 
 pub ruleset reading = (reads-uneven, reads-not, reads-long, fillable, reads-full, needs)
 
@@ -84,7 +87,7 @@ module _ (os : List ℕ) (us : List ℤ) where
     writes-uneven a h =
         let e = write-uneven h in
         let g = gives-refused old a e in
-        record { gives = g; back = λ z. absurd (accepted-refused (gives-zero g z) e) }
+        record { gives = g; back = λ strict z. absurd (accepted-refused (gives-zero g z) e) }
 
     module _ {f : Found} (m : Measures os us f) (same : length os ≡ length us) where
       found-is : f ≡ foundOf (encoding os us)
@@ -92,7 +95,7 @@ module _ (os : List ℕ) (us : List ℤ) where
 
       -- what a write gives reads back
       wrote : {r : Answer} {new : List ℕ} → Gives (encoding os us) old r new → Writes os us old r new
-      wrote g = record { gives = g; back = λ z. m .back _ (sym (write-plain same) ∙ gives-zero g z) }
+      wrote g = record { gives = g; back = λ strict z. m .back strict _ (sym (write-plain same) ∙ gives-zero g z) }
 
       pub writes-not : {r : Answer} {why : Refusal} {p : ℕ} → f ≡ found.Refused why p → r ≡ refusal why p → Writes os us old r old
       writes-not e a = wrote (gives-not old found-is e a)

@@ -2,7 +2,7 @@
 -- Assumes nothing.
 use Prim.Native.Nat.{ℕ, _+_, _^_, _≤_, _<_}
 use mathlib.Core.Path.{_≡_, refl, sym, _∙_}
-use mathlib.Core.Bool.{true, false}
+use mathlib.Core.Bool.{Bool, true, false}
 use mathlib.Core.List.{List, _∷_, _++_, map}
 use lib.IntN.{ℤ, pos, negsuc, _+ℤ_, _-ℤ_}
 use native.Mathlib.Omega.{arith}
@@ -13,6 +13,7 @@ use Rattle.answer.specs.declared.Refusal.the-variants.{Limit, Identifier, Width
 use Rattle.answer.specs.Outcome.{accepted, refused, inputLimit, listLimit, after}
 use Rattle.answer.specs.Outcome.Laws.{limited-over, limited-in, limited-accepted}
 use Rattle.leb128.specs.Number.{readSigned, shortSigned, isNeg}
+use Rattle.leb128.specs.declared.Signed.{Signed}
 use Rattle.leb128.specs.declared.Signed.the-variants.{Value, Refused}
 use Rattle.leb128.specs.declared.Unsigned.the-variants.{Value as UValue, Refused as URefused}
 use Rattle.records.specs.Columns.Laws.{from, map-from, zipped-from, zipped-length}
@@ -23,71 +24,80 @@ use Rattle.records.specs.Writing.{puts}
 use Rattle.leb128.proofs.RoundTrip.{signed-bytes}
 use Rattle.wrap.specs.Wrap.{residue, wrapped}
 use Rattle.wrap.specs.Wrap.Laws.{wrapped-range}
-use Rattle.apa1_table.specs.Table.{Row, row, start, identifier, secondOf, firstOf, stepAt, countOf, headAt, parse, decode, rows, entryBytes, putOf, behind, headOf, build, encode}
+use Rattle.apa1_table.specs.Table.{Row, row, start, identifier, secondOf, firstOf, stepAt, plain, countOf, headAt, parse, decode, rows, entryBytes, putOf, behind, headOf, build, encode}
 
 -- ---- a record
-module _ (s : List ℕ) (at : ℕ) (prev : Row) where
-  pub step-not : {why : Refusal} {p : ℕ} → readSigned 64 s at ≡ Refused why p → stepAt s at prev ≡ none why p
+module _ (strict : Bool) (s : List ℕ) (at : ℕ) (prev : Row) where
+  pub step-not : {why : Refusal} {p : ℕ} → readSigned strict 64 s at ≡ Refused why p → stepAt strict s at prev ≡ none why p
   unfolding stepAt firstOf
   step-not e = rw e
 
-  module _ {d : ℤ} {next : ℕ} (e : readSigned 64 s at ≡ Value d next) where
-    pub step-not-2 : {why : Refusal} {p : ℕ} → readSigned 64 s next ≡ Refused why p → stepAt s at prev ≡ none why p
+  module _ {d : ℤ} {next : ℕ} (e : readSigned strict 64 s at ≡ Value d next) where
+    pub step-not-2 : {why : Refusal} {p : ℕ} → readSigned strict 64 s next ≡ Refused why p → stepAt strict s at prev ≡ none why p
     unfolding stepAt firstOf secondOf
     step-not-2 f = rw (e, f)
 
-    pub step-is : {a : ℤ} {past : ℕ} {x : Row} → readSigned 64 s next ≡ Value a past
-        → x ≡ row (residue 64 (pos (prev .offset) +ℤ d)) (wrapped 64 (prev .addend +ℤ a)) → stepAt s at prev ≡ one x past x
+    pub step-is : {a : ℤ} {past : ℕ} {x : Row} → readSigned strict 64 s next ≡ Value a past
+        → x ≡ row (residue 64 (pos (prev .offset) +ℤ d)) (wrapped 64 (prev .addend +ℤ a)) → stepAt strict s at prev ≡ one x past x
     unfolding stepAt firstOf secondOf
     step-is f g = rw (e, f, g)
 
 -- ---- the identifier and the count
-module _ (s : List ℕ) where
-  pub head-other : startsWith identifier s ≡ false → headAt s ≡ URefused Identifier 0
+module _ (strict : Bool) (s : List ℕ) where
+  pub head-other : startsWith identifier s ≡ false → headAt strict s ≡ URefused Identifier 0
   unfolding headAt
   head-other e = rw e
 
   module _ (e : startsWith identifier s ≡ true) where
-    pub head-not : {why : Refusal} {p : ℕ} → readSigned 64 s (length identifier) ≡ Refused why p → headAt s ≡ URefused why p
+    pub head-not : {why : Refusal} {p : ℕ} → readSigned false 64 s (length identifier) ≡ Refused why p → headAt strict s ≡ URefused why p
     unfolding headAt countOf
     head-not f = rw (e, f)
 
-    pub head-is : {z : ℤ} {first : ℕ} → readSigned 64 s (length identifier) ≡ Value z first → headAt s ≡ countOf (Value z first)
+    pub head-is : {z : ℤ} {first : ℕ} → readSigned false 64 s (length identifier) ≡ Value z first → headAt strict s ≡ countOf (Value z first) (readSigned strict 64 s (length identifier))
     unfolding headAt
     head-is f = rw (e, f)
 
-pub count-negative : (z : ℤ) (first : ℕ) → isNeg z ≡ true → countOf (Value z first) ≡ URefused Width (length identifier)
+pub count-negative : (z : ℤ) (first : ℕ) (u : Signed) → isNeg z ≡ true → countOf (Value z first) u ≡ URefused Width (length identifier)
 unfolding countOf
-count-negative (pos n) first e = let o : _≡_ {A = ℕ} 0 1 = cc in absurd (omega arith)
-count-negative (negsuc n) first e = refl
+count-negative (pos n) first u e = let o : _≡_ {A = ℕ} 0 1 = cc in absurd (omega arith)
+count-negative (negsuc n) first u e = refl
 
-pub count-other : (z : ℤ) (first : ℕ) → isNeg z ≡ false → countOf (Value z first) ≡ UValue (mag z) first
+pub count-other : (z : ℤ) (first : ℕ) (u : Signed) → isNeg z ≡ false → countOf (Value z first) u ≡ plain u
 unfolding countOf
-count-other (pos n) first e = refl
-count-other (negsuc n) first e = let o : _≡_ {A = ℕ} 0 1 = cc in absurd (omega arith)
+count-other (pos n) first u e = refl
+count-other (negsuc n) first u e = let o : _≡_ {A = ℕ} 0 1 = cc in absurd (omega arith)
+
+pub plain-is : (z : ℤ) (first : ℕ) → plain (Value z first) ≡ UValue (mag z) first
+unfolding plain
+plain-is z first = refl
+
+pub plain-not : {u : Signed} {why : Refusal} {p : ℕ} → u ≡ Refused why p → plain u ≡ URefused why p
+unfolding plain
+plain-not e = rw e
 
 -- ---- the whole
-module _ (s : List ℕ) where
-  pub parse-is : parse s ≡ counted (stepAt s) (length s) start (headAt s)
+module _ (strict : Bool) (s : List ℕ) where
+  pub parse-is : parse strict s ≡ counted (stepAt strict s) (length s) start (headAt strict s)
   unfolding parse
   parse-is = refl
 
-  pub decode-over : inputLimit < length s → decode s ≡ refused Limit 0
+  pub decode-over : inputLimit < length s → decode strict s ≡ refused Limit 0
   unfolding decode
-  decode-over h = limited-over inputLimit (length s) (parse s) h
+  decode-over h = limited-over inputLimit (length s) (parse strict s) h
 
-  pub decode-in : length s ≤ inputLimit → decode s ≡ parse s
+  pub decode-in : length s ≤ inputLimit → decode strict s ≡ parse strict s
   unfolding decode
-  decode-in h = limited-in inputLimit (length s) (parse s) h
+  decode-in h = limited-in inputLimit (length s) (parse strict s) h
 
-  pub decode-accepted : {l : List Row} → decode s ≡ accepted l → (length s ≤ inputLimit) × (parse s ≡ accepted l)
+  pub decode-accepted : {l : List Row} → decode strict s ≡ accepted l → (length s ≤ inputLimit) × (parse strict s ≡ accepted l)
   unfolding decode
-  decode-accepted e = limited-accepted inputLimit (length s) (parse s) e
+  decode-accepted e = limited-accepted inputLimit (length s) (parse strict s) e
 
   -- a negative count is refusal 5 at its first byte
-  pub decode-negative : {n next : ℕ} → length s ≤ inputLimit → startsWith identifier s ≡ true → readSigned 64 s (length identifier) ≡ Value (negsuc n) next
-      → decode s ≡ refused Width (length identifier)
-  decode-negative {n} {next} h i e = decode-in h ∙ parse-is ∙ counted-not (stepAt s) (length s) start (head-is s i e ∙ count-negative (negsuc n) next refl)
+  pub decode-negative : {n next : ℕ} → length s ≤ inputLimit → startsWith identifier s ≡ true → readSigned false 64 s (length identifier) ≡ Value (negsuc n) next
+      → decode strict s ≡ refused Width (length identifier)
+  decode-negative {n} {next} h i e =
+      decode-in h ∙ parse-is ∙ counted-not (stepAt strict s) (length s) start (head-is strict s i e ∙ count-negative (negsuc n) next (readSigned strict 64 s (length identifier)) refl)
 
 -- ---- the records of columns
 module _ (os : List ℕ) (us : List ℤ) (same : length os ≡ length us) where
