@@ -8,13 +8,14 @@ use native.Mathlib.Omega.{arith}
 use lib.Dec.{ltb}
 use lib.IntN.{ℤ, pos, negsuc, _+ℤ_, _-ℤ_}
 use lib.ListN.{length, getD, length-append}
+use lib.Pow.{pow-pos}
 use lib.Signed.{mag}
 use borrow.Author.Tests.{lt-ltb, ltb-true}
 use Rattle.answer.specs.Limits.{list-most, list-small}
 use Rattle.answer.specs.Outcome.{Outcome, accepted, inputLimit, listLimit}
 use Rattle.answer.specs.Outcome.Laws.{Accepts}
 use Rattle.answer.specs.Outcome.Laws as Outcome
-use Rattle.leb128.specs.Number.{IsWidth, readSigned, shortUnsigned, shortSigned}
+use Rattle.leb128.specs.Number.{IsWidth, readSigned, shortUnsigned, isNeg, shortSigned}
 use Rattle.leb128.proofs.RoundTrip.{unsigned-bytes, signed-bytes}
 use Rattle.records.specs.Columns.{Each}
 use Rattle.records.specs.Columns.Laws.{At, each-of, column-of}
@@ -25,10 +26,11 @@ use Rattle.records.proofs.Writing.{after-accepted}
 use Rattle.records.proofs.RoundTrip.{puts-accepted, puts-legal, puts-most, signed-here, unsigned-here, back}
 use Rattle.wrap.specs.Wrap.{residue, wrapped, same}
 use Rattle.wrap.specs.Wrap.Laws.{residue-lt, residue-small, wrapped-range, back-residue, back-wrapped, back-unsigned, same-true}
-use Rattle.relleb_table.specs.Table.{Row, row, State, state, start, behind, withSymbol, stepAt, parse, decode, rows, fieldOf, changeBytes, entryBytes, putOf, build, encode, InWidth}
-use Rattle.relleb_table.specs.Table.Laws.{addend-is, symbol-same, symbol-other, type-is, offset-is, step-is, parse-is, decode-in, rows-from, put-space, put-addend, put-bytes, entry-is, field-is, field-bytes, build-is, encode-in, encode-accepted}
+use Rattle.relleb_table.specs.Table.{Row, row, State, state, start, behind, noChange, withSymbol, stepAt, parse, decode, rows, fieldOf, changeBytes, entryBytes, putOf, build, encode, InWidth}
+use Rattle.relleb_table.specs.Table.Laws.{change-taken, addend-is, symbol-same, symbol-other, type-is, offset-is, step-is, parse-is, decode-in, rows-from, put-space, put-addend, put-bytes, entry-is, field-is, field-bytes, build-is, encode-in, encode-accepted}
 use Rattle.relleb_table.specs.Contract.{offsetOf, typeOf, symbolOf, addendOf, Same}
 use Rattle.relleb_table.specs.Contract.Laws.{many}
+use Rattle.relleb_table.proofs.Changes.{entry-changes}
 
 module _ (W : ℕ) where
   pub put-is : (prev : State) (x : Row) → InWidth W x → putOf W prev x ≡ bytes (entryBytes W prev x)
@@ -99,25 +101,30 @@ module _ (W : ℕ) (wide : IsWidth W) where
       let m = puts-most (putOf W) behind Fine 30 entry-most l 0 start f (c .is) in
       omega (arith, ap length (c .whole), length-append (shortUnsigned (length l)) (c .rest), unsigned-bytes 64 (length l) (omega arith) h)
 
-  -- ---- the symbol field, and the addend's difference if it stands there
+-- the addend before a record has W bits
+abbrev Ranged : ℕ → State → Type 0
+Ranged W prev = mag (prev .addend) < 2 ^ (W - 1)
+
+module _ (strict : Bool) (W : ℕ) (wide : IsWidth W) where
+  -- ---- the symbol field, and the addend's difference if it stands there, which is then not 0
   symbol-back : (s pre post : List ℕ) (o t : ℕ) (base : ℤ) (x : Row) → x .symbol < 2 ^ 32 → mag (x .addend) < 2 ^ (W - 1)
-      → s ≡ pre ++ ((shortSigned (fieldOf base x) ++ changeBytes (fieldOf base x) (wrapped W (x .addend -ℤ base))) ++ post)
-      → withSymbol W s base o t (readSigned 33 s (length pre))
+      → (isNeg (fieldOf base x) ≡ true → wrapped W (x .addend -ℤ base) ≡ pos 0 → ⊥) → s ≡ pre ++ ((shortSigned (fieldOf base x) ++ changeBytes (fieldOf base x) (wrapped W (x .addend -ℤ base))) ++ post)
+      → withSymbol strict W s base o t (readSigned strict 33 s (length pre))
       ≡ one (row o t (x .symbol) (x .addend)) (length (pre ++ (shortSigned (fieldOf base x) ++ changeBytes (fieldOf base x) (wrapped W (x .addend -ℤ base))))) (state o t (x .addend))
-  symbol-back s pre post o t base x h k e = go (same (x .addend) base) refl
+  symbol-back s pre post o t base x h k changed e = go (same (x .addend) base) refl
     where
       a : ℤ
       a = wrapped W (x .addend -ℤ base)
 
       go : (b : Bool) → same (x .addend) base ≡ b
-          → withSymbol W s base o t (readSigned 33 s (length pre))
+          → withSymbol strict W s base o t (readSigned strict 33 s (length pre))
           ≡ one (row o t (x .symbol) (x .addend)) (length (pre ++ (shortSigned (fieldOf base x) ++ changeBytes (fieldOf base x) (wrapped W (x .addend -ℤ base))))) (state o t (x .addend))
       go true q =
           let f : fieldOf base x ≡ pos (x .symbol) = field-is base x ∙ ap (λ (b : Bool). cond b (pos (x .symbol)) (negsuc (x .symbol))) q in
           let n : shortSigned (pos (x .symbol)) ++ [] ≡ shortSigned (pos (x .symbol)) = append-nil (shortSigned (pos (x .symbol))) in
           let p : s ≡ pre ++ (shortSigned (pos (x .symbol)) ++ post) = rw (f, n) at e in
-          let r = signed-here 33 s pre post (length pre) (omega arith) refl (pos (x .symbol)) h p in
-          rw (f, n, r, ← same-true (x .addend) base q) (symbol-same W s (x .addend) o t (pos (x .symbol)) _ refl)
+          let r = signed-here strict 33 s pre post (length pre) (omega arith) refl (pos (x .symbol)) h p in
+          rw (f, n, r, ← same-true (x .addend) base q) (symbol-same strict W s (x .addend) o t (pos (x .symbol)) _ refl)
       go false q =
           let f : fieldOf base x ≡ negsuc (x .symbol) = field-is base x ∙ ap (λ (b : Bool). cond b (pos (x .symbol)) (negsuc (x .symbol))) q in
           let v = shortSigned (negsuc (x .symbol)) in
@@ -125,14 +132,15 @@ module _ (W : ℕ) (wide : IsWidth W) where
           let p : s ≡ pre ++ ((v ++ u) ++ post) = rw f at e in
           let p₁ : s ≡ pre ++ (v ++ (u ++ post)) = p ∙ ap (λ (m : List ℕ). pre ++ m) (append-assoc v u post) in
           let p₂ : s ≡ (pre ++ v) ++ (u ++ post) = p₁ ∙ sym (append-assoc pre v (u ++ post)) in
-          let r = signed-here 33 s pre (u ++ post) (length pre) (omega arith) refl (negsuc (x .symbol)) h p₁ in
-          let w = signed-here W s (pre ++ v) post (length (pre ++ v)) (wide .0) refl (wrapped W (x .addend -ℤ base)) (wrapped-range W (wide .0) _) p₂ in
-          let z = addend-is W base o t (x .symbol) w (sym (back-wrapped W (wide .0) base (x .addend) k)) in
-          rw (f, r, ← append-assoc pre v u) (symbol-other W s base o t (negsuc (x .symbol)) _ refl ∙ z)
+          let r = signed-here strict 33 s pre (u ++ post) (length pre) (omega arith) refl (negsuc (x .symbol)) h p₁ in
+          let w = signed-here strict W s (pre ++ v) post (length (pre ++ v)) (wide .0) refl (wrapped W (x .addend -ℤ base)) (wrapped-range W (wide .0) _) p₂ in
+          let c : noChange strict (wrapped W (x .addend -ℤ base)) ≡ false = change-taken strict _ (changed (ap isNeg f)) in
+          let z = addend-is strict W (length (pre ++ v)) base o t (x .symbol) w c (sym (back-wrapped W (wide .0) base (x .addend) k)) in
+          rw (f, r, ← append-assoc pre v u) (symbol-other strict W s base o t (negsuc (x .symbol)) _ refl ∙ z)
 
   -- a record's bytes read back as that record, wherever they stand
-  record-back : (pre post b : List ℕ) (prev : State) (x : Row) → Unit {0} → Fine x → putOf W prev x ≡ bytes b
-      → (stepAt W (pre ++ (b ++ post)) (length pre) prev ≡ one x (length pre + length b) (behind prev x)) × Unit {0}
+  record-back : (pre post b : List ℕ) (prev : State) (x : Row) → Ranged W prev → Fine x → putOf W prev x ≡ bytes b
+      → (stepAt strict W (pre ++ (b ++ post)) (length pre) prev ≡ one x (length pre + length b) (behind prev x)) × Ranged W (behind prev x)
   record-back pre post b prev x g f e =
       let l = put-legal W prev x b e in
       let d = residue W (pos (x .offset) -ℤ pos (prev .offset)) in
@@ -146,23 +154,23 @@ module _ (W : ℕ) (wide : IsWidth W) where
       let p₂ : s ≡ (pre ++ shortUnsigned d) ++ (shortSigned t ++ (v ++ post)) =
       p₁ ∙ sym (append-assoc pre (shortUnsigned d) ((shortSigned t ++ v) ++ post)) ∙ ap (λ (m : List ℕ). (pre ++ shortUnsigned d) ++ m) (append-assoc (shortSigned t) v post) in
       let p₃ : s ≡ ((pre ++ shortUnsigned d) ++ shortSigned t) ++ (v ++ post) = p₂ ∙ sym (append-assoc (pre ++ shortUnsigned d) (shortSigned t) (v ++ post)) in
-      let r₁ = unsigned-here W s pre ((shortSigned t ++ v) ++ post) (length pre) (wide .0) refl d (residue-lt W _) p₁ in
-      let r₂ = signed-here 32 s (pre ++ shortUnsigned d) (v ++ post) (length (pre ++ shortUnsigned d)) (omega arith) refl t (wrapped-range 32 (omega arith) _) p₂ in
+      let r₁ = unsigned-here strict W s pre ((shortSigned t ++ v) ++ post) (length pre) (wide .0) refl d (residue-lt W _) p₁ in
+      let r₂ = signed-here strict 32 s (pre ++ shortUnsigned d) (v ++ post) (length (pre ++ shortUnsigned d)) (omega arith) refl t (wrapped-range 32 (omega arith) _) p₂ in
       let o : (prev .offset + d) % 2 ^ W ≡ x .offset = back-unsigned W (prev .offset) (x .offset) (l .0) in
       let u : residue 32 (pos (prev .type) +ℤ t) ≡ x .type = back-residue 32 (omega arith) (pos (prev .type)) (pos (x .type)) ∙ residue-small 32 (x .type) (f .0) in
-      let z = symbol-back s ((pre ++ shortUnsigned d) ++ shortSigned t) post (x .offset) (x .type) (prev .addend) x (f .1) (l .1) p₃ in
+      let z = symbol-back s ((pre ++ shortUnsigned d) ++ shortSigned t) post (x .offset) (x .type) (prev .addend) x (f .1) (l .1) (entry-changes W wide prev x g l) p₃ in
       let n : length (((pre ++ shortUnsigned d) ++ shortSigned t) ++ v) ≡ length pre + length b =
       omega (arith, length-append ((pre ++ shortUnsigned d) ++ shortSigned t) v, length-append (pre ++ shortUnsigned d) (shortSigned t), length-append pre (shortUnsigned d), ap length k, length-append (shortUnsigned d) (shortSigned t ++ v), length-append (shortSigned t) v) in
-      (step-is W s (length pre) prev ∙ offset-is W s prev r₁ ∙ type-is W s prev ((prev .offset + d) % 2 ^ W) r₂ ∙ rw (o, u) z ∙ ap (λ (m : ℕ). one x m (behind prev x)) n, tt)
+      (step-is strict W s (length pre) prev ∙ offset-is strict W s prev r₁ ∙ type-is strict W s prev ((prev .offset + d) % 2 ^ W) r₂ ∙ rw (o, u) z ∙ ap (λ (m : ℕ). one x m (behind prev x)) n, l .1)
 
   -- the whole table
-  parse-build : (l : List Row) {b : List ℕ} → length l < 2 ^ 64 → Each Fine l → build W l ≡ accepted b → parse W b ≡ accepted l
+  parse-build : (l : List Row) {b : List ℕ} → length l < 2 ^ 64 → Each Fine l → build W l ≡ accepted b → parse strict W b ≡ accepted l
   parse-build l {b} few fine e =
       let n = shortUnsigned (length l) in
       let c = Outcome.behind n (puts (putOf W) behind 0 start l) (sym (build-is W l) ∙ e) in
-      let h = unsigned-here 64 b [] (c .rest) 0 (omega arith) refl (length l) few (c .whole) in
-      parse-is W b ∙ counted-records (stepAt W b) (length b) start h ∙
-      rw (c .whole) (back (stepAt W) (putOf W) behind (λ (x : State). Unit {0}) Fine record-back l 0 start n tt fine (c .is))
+      let h = unsigned-here strict 64 b [] (c .rest) 0 (omega arith) refl (length l) few (c .whole) in
+      parse-is strict W b ∙ counted-records (stepAt strict W b) (length b) start h ∙
+      rw (c .whole) (back (stepAt strict W) (putOf W) behind (Ranged W) Fine record-back l 0 start n (pow-pos (W - 1)) fine (c .is))
 
 -- ---- a list is written exactly where it is within its limit and each of its records is legal
 module _ (W : ℕ) (l : List Row) where
@@ -185,8 +193,8 @@ module _ (W : ℕ) (l : List Row) where
     encode-fits = omega (arith, encode-most, encode-accepted W l e .0, list-most)
 
     -- the round trip: it decodes to the list
-    pub decode-encode : decode W b ≡ accepted l
-    decode-encode = let (h, f) = encode-accepted W l e in decode-in W b encode-fits ∙ parse-build W wide l few fine f
+    pub decode-encode : (strict : Bool) → decode strict W b ≡ accepted l
+    decode-encode strict = let (h, f) = encode-accepted W l e in decode-in strict W b encode-fits ∙ parse-build strict W wide l few fine f
 
 -- ---- the records of four columns
 module _ (os ts ys : List ℕ) (us : List ℤ) (s : Same os ts ys us) where
