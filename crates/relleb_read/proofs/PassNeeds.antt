@@ -2,6 +2,7 @@
 -- Assumes nothing.
 use Prim.Native.Nat.{ℕ, _+_, _-_, _*_, _^_, _≤_, _<_}
 use mathlib.Core.Path.{_≡_, ap, sym, _∙_, subst}
+use mathlib.Core.Bool.{Bool}
 use mathlib.Core.List.{List, [], _∷_, _++_}
 use native.Mathlib.Omega.{arith}
 use lib.IntN.{ℤ}
@@ -36,55 +37,55 @@ use Rattle.relleb_table.specs.Inner.{Fillable}
 use Rattle.relleb_read.specs.Inner.{entryStep, Skips}
 
 -- the records of a table that has so many from a place on
-abbrev pub body : ℕ → List ℕ → ℕ → ℕ → Outcome (List Row)
-body W s n first = records (stepAt W s) (length s) n first start
+abbrev pub body : Bool → ℕ → List ℕ → ℕ → ℕ → Outcome (List Row)
+body strict W s n first = records (stepAt strict W s) (length s) n first start
 
 -- ---- the first pass: the records before a place led to some sums
-pub record Walking (W : ℕ) (s : List ℕ) (n first left at : ℕ) : Type 0 where
+pub record Walking (strict : Bool) (W : ℕ) (s : List ℕ) (n first left at : ℕ) : Type 0 where
   pub prev : State
-  pub scanned : Scanned (stepAt W s) (length s) (body W s n first) n left at prev
+  pub scanned : Scanned (stepAt strict W s) (length s) (body strict W s n first) n left at prev
 
-pub walk-begin : (W : ℕ) (s : List ℕ) (n first : ℕ) → Walking W s n first n first
-walk-begin W s n first = record { prev = start; scanned = scanned-none (stepAt W s) (length s) n first start }
+pub walk-begin : (strict : Bool) (W : ℕ) (s : List ℕ) (n first : ℕ) → Walking strict W s n first n first
+walk-begin strict W s n first = record { prev = start; scanned = scanned-none (stepAt strict W s) (length s) n first start }
 
-module _ {W : ℕ} {s : List ℕ} {n first left at : ℕ} (i : Walking W s n first left at) where
-  module _ (x : Signed) (h : 0 < left) (e : Skips W s at x) where
-    pub walk-more : {z : ℤ} {past : ℕ} → x ≡ SValue z past → Walking W s n first (left - 1) past
-    walk-more f = let (y, next, g) = subst (Skips W s at) f e (i .prev) in record { prev = next; scanned = scanned-more (i .scanned) h g }
+module _ {strict : Bool} {W : ℕ} {s : List ℕ} {n first left at : ℕ} (i : Walking strict W s n first left at) where
+  module _ (x : Signed) (h : 0 < left) (e : Skips strict W s at x) where
+    pub walk-more : {z : ℤ} {past : ℕ} → x ≡ SValue z past → Walking strict W s n first (left - 1) past
+    walk-more f = let (y, next, g) = subst (Skips strict W s at) f e (i .prev) in record { prev = next; scanned = scanned-more (i .scanned) h g }
 
-    pub walk-bad : {k : Cause} {why : Refusal} {p : ℕ} → x ≡ SRefused why p → k ≡ signedCause x → found.Refused (k .why) (k .place) ≡ foundOf (body W s n first)
-    walk-bad f g = scanned-bad (i .scanned) h (subst (Skips W s at) (signed-cause f g) e (i .prev))
+    pub walk-bad : {k : Cause} {why : Refusal} {p : ℕ} → x ≡ SRefused why p → k ≡ signedCause x → found.Refused (k .why) (k .place) ≡ foundOf (body strict W s n first)
+    walk-bad f g = scanned-bad (i .scanned) h (subst (Skips strict W s at) (signed-cause f g) e (i .prev))
 
-  pub walk-end : left ≤ 0 → length s ≤ at → found.Count n ≡ foundOf (body W s n first)
+  pub walk-end : left ≤ 0 → length s ≤ at → found.Count n ≡ foundOf (body strict W s n first)
   walk-end h k = scanned-end (i .scanned) h k
 
-  pub walk-over : left ≤ 0 → at < length s → found.Refused Trailing at ≡ foundOf (body W s n first)
+  pub walk-over : left ≤ 0 → at < length s → found.Refused Trailing at ≡ foundOf (body strict W s n first)
   walk-over h k = scanned-over (i .scanned) h k
 
 pub ruleset walks = (walk-begin, walk-more, walk-bad, walk-end, walk-over, needs)
 
 -- ---- the second pass
 -- the records before a place stand in the columns, and w is the bits of the last addend
-pub record Storing (W : ℕ) (s : List ℕ) (n first : ℕ) (os₀ ts₀ ys₀ : List ℕ) (us₀ : List ℤ) (os ts ys : List ℕ) (us : List ℤ) (left at o t w i : ℕ) : Type 0 where
+pub record Storing (strict : Bool) (W : ℕ) (s : List ℕ) (n first : ℕ) (os₀ ts₀ ys₀ : List ℕ) (us₀ : List ℤ) (os ts ys : List ℕ) (us : List ℤ) (left at o t w i : ℕ) : Type 0 where
   pub list : List Row
-  pub stored : Stored (stepAt W s) (length s) (body W s n first) list left at (state o t (toZ w64 w)) i
+  pub stored : Stored (stepAt strict W s) (length s) (body strict W s n first) list left at (state o t (toZ w64 w)) i
   pub offsets : Column offsetOf list i os₀ os
   pub types : Column typeOf list i ts₀ ts
   pub symbols : Column symbolOf list i ys₀ ys
   pub addends : Column addendOf list i us₀ us
 
-pub store-begin : (W : ℕ) (s : List ℕ) (n first : ℕ) (os ts ys : List ℕ) (us : List ℤ) → Storing W s n first os ts ys us os ts ys us n first 0 0 0 0
-store-begin W s n first os ts ys us =
+pub store-begin : (strict : Bool) (W : ℕ) (s : List ℕ) (n first : ℕ) (os ts ys : List ℕ) (us : List ℤ) → Storing strict W s n first os ts ys us os ts ys us n first 0 0 0 0
+store-begin strict W s n first os ts ys us =
     record {
       list = [];
-      stored = stored-none (stepAt W s) (length s) n first start;
+      stored = stored-none (stepAt strict W s) (length s) n first start;
       offsets = column-none offsetOf os;
       types = column-none typeOf ts;
       symbols = column-none symbolOf ys;
       addends = column-none addendOf us;
     }
 
-module _ {W : ℕ} {s : List ℕ} {n first : ℕ} {os₀ ts₀ ys₀ : List ℕ} {us₀ : List ℤ} {os ts ys : List ℕ} {us : List ℤ} {left at o t w i : ℕ} (f : Fillable (body W s n first) os₀ ts₀ ys₀ us₀) (g : Storing W s n first os₀ ts₀ ys₀ us₀ os ts ys us left at o t w i) where
+module _ {strict : Bool} {W : ℕ} {s : List ℕ} {n first : ℕ} {os₀ ts₀ ys₀ : List ℕ} {us₀ : List ℤ} {os ts ys : List ℕ} {us : List ℤ} {left at o t w i : ℕ} (f : Fillable (body strict W s n first) os₀ ts₀ ys₀ us₀) (g : Storing strict W s n first os₀ ts₀ ys₀ us₀ os ts ys us left at o t w i) where
   within : i ≤ length os₀
   within = stored-within (f .fitting) (g .stored)
 
@@ -100,8 +101,8 @@ module _ {W : ℕ} {s : List ℕ} {n first : ℕ} {os₀ ts₀ ys₀ : List ℕ}
   pub store-same-4 : length us ≡ length us₀
   store-same-4 = column-same (g .addends) (g .stored .long) (omega (arith, within, f .same .addends))
 
-  module _ {x : Entry} (h : 0 < left) (e : entryStep x ≡ stepAt W s at (state o t (toZ w64 w))) where
-    pub store-bad : {why : Refusal} {p : ℕ} → x ≡ Refused why p → Filled (body W s n first) os₀ ts₀ ys₀ us₀ os ts ys us
+  module _ {x : Entry} (h : 0 < left) (e : entryStep x ≡ stepAt strict W s at (state o t (toZ w64 w))) where
+    pub store-bad : {why : Refusal} {p : ℕ} → x ≡ Refused why p → Filled (body strict W s n first) os₀ ts₀ ys₀ us₀ os ts ys us
     store-bad k = absurd (stored-bad (f .fitting) (g .stored) h (sym e ∙ ap entryStep k))
 
     module _ {o′ t′ y past : ℕ} {a : ℤ} (k : x ≡ Record o′ t′ y a past) where
@@ -130,7 +131,7 @@ module _ {W : ℕ} {s : List ℕ} {n first : ℕ} {os₀ ts₀ ys₀ : List ℕ}
       store-next q = record { fits = omega (arith, old-in) }
 
       pub store-more : toZ w64 (ofZ w64 a) ≡ a
-          → Storing W s n first os₀ ts₀ ys₀ us₀ (set os i o′) (set ts i t′) (set ys i y) (set us i (toZ w64 (ofZ w64 a))) (left - 1) past o′ t′ (ofZ w64 a) (i + 1)
+          → Storing strict W s n first os₀ ts₀ ys₀ us₀ (set os i o′) (set ts i t′) (set ys i y) (set us i (toZ w64 (ofZ w64 a))) (left - 1) past o′ t′ (ofZ w64 a) (i + 1)
       store-more b =
           let l = g .stored .long in
           let z = row o′ t′ y (toZ w64 (ofZ w64 a)) in
@@ -143,7 +144,7 @@ module _ {W : ℕ} {s : List ℕ} {n first : ℕ} {os₀ ts₀ ys₀ : List ℕ}
             addends = column-next (g .addends) l z (omega (arith, old-in, f .same .addends));
           }
 
-  pub store-end : left ≤ 0 → Filled (body W s n first) os₀ ts₀ ys₀ us₀ os ts ys us
+  pub store-end : left ≤ 0 → Filled (body strict W s n first) os₀ ts₀ ys₀ us₀ os ts ys us
   store-end h =
       let d = stored-end (f .fitting) (g .stored) h in
       let l = g .stored .long in
@@ -157,36 +158,36 @@ module _ {W : ℕ} {s : List ℕ} {n first : ℕ} {os₀ ts₀ ys₀ : List ℕ}
 pub ruleset stores = (store-begin, store-same, store-same-2, store-same-3, store-same-4, store-bad, store-in, store-in-2, store-in-3, store-in-4, store-scaled, store-scaled-2, store-next, store-more, store-end, needs)
 
 -- ---- from the count on
-module _ (W : ℕ) (s : List ℕ) {u : Unsigned} (e : u ≡ readUnsigned 64 s 0) where
-  whole : {n first : ℕ} → u ≡ UValue n first → parse W s ≡ body W s n first
-  whole f = parse-is W s ∙ counted-records (stepAt W s) (length s) start (sym e ∙ f)
+module _ (strict : Bool) (W : ℕ) (s : List ℕ) {u : Unsigned} (e : u ≡ readUnsigned strict 64 s 0) where
+  whole : {n first : ℕ} → u ≡ UValue n first → parse strict W s ≡ body strict W s n first
+  whole f = parse-is strict W s ∙ counted-records (stepAt strict W s) (length s) start (sym e ∙ f)
 
-  pub scan-not : {k : Cause} {why : Refusal} {p : ℕ} → u ≡ URefused why p → k ≡ unsignedCause u → found.Refused (k .why) (k .place) ≡ foundOf (parse W s)
-  scan-not f g = rw (parse-is W s) (count-not (stepAt W s) (length s) start (sym e ∙ f) (g ∙ ap unsignedCause e))
+  pub scan-not : {k : Cause} {why : Refusal} {p : ℕ} → u ≡ URefused why p → k ≡ unsignedCause u → found.Refused (k .why) (k .place) ≡ foundOf (parse strict W s)
+  scan-not f g = rw (parse-is strict W s) (count-not (stepAt strict W s) (length s) start (sym e ∙ f) (g ∙ ap unsignedCause e))
 
-  pub scan-is : {n first : ℕ} {r : Found} → u ≡ UValue n first → r ≡ foundOf (body W s n first) → r ≡ foundOf (parse W s)
+  pub scan-is : {n first : ℕ} {r : Found} → u ≡ UValue n first → r ≡ foundOf (body strict W s n first) → r ≡ foundOf (parse strict W s)
   scan-is f g = g ∙ ap foundOf (sym (whole f))
 
-  module _ {os ts ys : List ℕ} {us : List ℤ} (f : Fillable (decode W s) os ts ys us) where
-    all : {n first : ℕ} → u ≡ UValue n first → decode W s ≡ body W s n first
-    all g = decode-in W s (decode-accepted W s (f .fitting .is) .0) ∙ whole g
+  module _ {os ts ys : List ℕ} {us : List ℤ} (f : Fillable (decode strict W s) os ts ys us) where
+    all : {n first : ℕ} → u ≡ UValue n first → decode strict W s ≡ body strict W s n first
+    all g = decode-in strict W s (decode-accepted strict W s (f .fitting .is) .0) ∙ whole g
 
-    pub fill-not : {why : Refusal} {p : ℕ} {os′ ts′ ys′ : List ℕ} {us′ : List ℤ} → u ≡ URefused why p → Filled (decode W s) os ts ys us os′ ts′ ys′ us′
-    fill-not g = absurd (accepted-refused (decode-accepted W s (f .fitting .is) .1) (parse-is W s ∙ counted-not (stepAt W s) (length s) start (sym e ∙ g)))
+    pub fill-not : {why : Refusal} {p : ℕ} {os′ ts′ ys′ : List ℕ} {us′ : List ℤ} → u ≡ URefused why p → Filled (decode strict W s) os ts ys us os′ ts′ ys′ us′
+    fill-not g = absurd (accepted-refused (decode-accepted strict W s (f .fitting .is) .1) (parse-is strict W s ∙ counted-not (stepAt strict W s) (length s) start (sym e ∙ g)))
 
-    pub fill-able : {n first : ℕ} → u ≡ UValue n first → Fillable (body W s n first) os ts ys us
+    pub fill-able : {n first : ℕ} → u ≡ UValue n first → Fillable (body strict W s n first) os ts ys us
     fill-able g = rw (← all g) f
 
-    pub fill-is : {n first : ℕ} {os′ ts′ ys′ : List ℕ} {us′ : List ℤ} → u ≡ UValue n first → Filled (body W s n first) os ts ys us os′ ts′ ys′ us′ → Filled (decode W s) os ts ys us os′ ts′ ys′ us′
+    pub fill-is : {n first : ℕ} {os′ ts′ ys′ : List ℕ} {us′ : List ℤ} → u ≡ UValue n first → Filled (body strict W s n first) os ts ys us os′ ts′ ys′ us′ → Filled (decode strict W s) os ts ys us os′ ts′ ys′ us′
     fill-is g h = rw (all g) h
 
 pub ruleset fills = (scan-not, scan-is, fill-not, fill-able, fill-is, needs)
 
 -- ---- the limit in front
-pub check-over : (W : ℕ) (s : List ℕ) → inputLimit < length s → found.Refused Limit 0 ≡ foundOf (decode W s)
-check-over W s h = sym (found-refused (decode-over W s h))
+pub check-over : (strict : Bool) (W : ℕ) (s : List ℕ) → inputLimit < length s → found.Refused Limit 0 ≡ foundOf (decode strict W s)
+check-over strict W s h = sym (found-refused (decode-over strict W s h))
 
-pub check-in : (W : ℕ) (s : List ℕ) {r : Found} → length s ≤ inputLimit → r ≡ foundOf (parse W s) → r ≡ foundOf (decode W s)
-check-in W s h e = e ∙ ap foundOf (sym (decode-in W s h))
+pub check-in : (strict : Bool) (W : ℕ) (s : List ℕ) {r : Found} → length s ≤ inputLimit → r ≡ foundOf (parse strict W s) → r ≡ foundOf (decode strict W s)
+check-in strict W s h e = e ∙ ap foundOf (sym (decode-in strict W s h))
 
 pub ruleset checks = (check-over, check-in, needs)

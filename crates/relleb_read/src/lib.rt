@@ -1,15 +1,17 @@
-// The reader of RELLEB tables: a first pass over the table, and a second that fills the columns. The width is the class's.
+// The reader of RELLEB tables: a first pass over the table, strict or lax, and a second that fills the columns. The second reads laxly: of a
+// table that the first accepted strictly too, that is the same list. The width is the class's.
 ghost use mathlib.Core.Path.{_≡_};
+ghost use mathlib.Core.Bool.{false};
 ghost use Prim.Native.Nat.{_^_, _<_};
 ghost use lib.ListN.{length};
 ghost use lib.Signed.{mag};
 ghost use Rattle.answer.specs.Outcome.{foundOf};
 ghost use Rattle.leb128.specs.Number.{IsWidth, readSigned};
 ghost use Rattle.records.specs.Reading.{records};
-ghost use Rattle.relleb_table.specs.Table.{state, start, withAddend, withSymbol, withType, stepAt, parse, decode};
+ghost use Rattle.relleb_table.specs.Table.{state, start, noChange, withAddend, withSymbol, withType, stepAt, parse, decode};
 ghost use Rattle.relleb_table.specs.Contract.{Filled};
 ghost use Rattle.relleb_table.specs.Inner.{Fillable};
-ghost use Rattle.relleb_read.specs.Inner.{entryStep, Skips};
+ghost use Rattle.relleb_read.specs.Inner.{entryStep, changeAt, Skips};
 use answer::Found;
 use answer::INPUT_LIMIT;
 use answer::Refusal;
@@ -22,7 +24,7 @@ pub enum Entry {
     Refused(Refusal, usize),
 }
 
-// The record whose addend's difference stands at a place.
+// The record whose addend's difference stands at a place. (This and the next are of the second pass.)
 fn with_addend(
     s: &[u8],
     at: usize,
@@ -33,9 +35,9 @@ fn with_addend(
     base: i64,
 ) -> Entry
     requires { ⌜ IsWidth width ⌝ }
-    ensures { λ r. ⌜ entryStep r ≡ withAddend width base offset kind symbol (readSigned width (now (s .entry)) at) ⌝ }
+    ensures { λ r. ⌜ entryStep r ≡ withAddend false width at base offset kind symbol (readSigned false width (now (s .entry)) at) ⌝ }
 {
-    let fourth = leb128::read_signed(s, at, width);
+    let fourth = leb128::read_signed(false, s, at, width);
     let Signed::Value(change, past) = fourth else {
         let cause = fourth.cause();
         let why = cause.why;
@@ -64,9 +66,9 @@ fn symbol_in(field: i64) -> u32
 // The record whose symbol field stands at a place.
 fn with_symbol(s: &[u8], at: usize, width: u32, offset: u64, kind: u32, base: i64) -> Entry
     requires { ⌜ IsWidth width ⌝ }
-    ensures { λ r. ⌜ entryStep r ≡ withSymbol width (now (s .entry)) base offset kind (readSigned 33 (now (s .entry)) at) ⌝ }
+    ensures { λ r. ⌜ entryStep r ≡ withSymbol false width (now (s .entry)) base offset kind (readSigned false 33 (now (s .entry)) at) ⌝ }
 {
-    let third = leb128::read_signed(s, at, 33);
+    let third = leb128::read_signed(false, s, at, 33);
     let Signed::Value(field, next) = third else {
         let cause = third.cause();
         let why = cause.why;
@@ -90,9 +92,9 @@ fn with_type(
     base: i64,
 ) -> Entry
     requires { ⌜ IsWidth width ⌝ }
-    ensures { λ r. ⌜ entryStep r ≡ withType width (now (s .entry)) (state before kind base) offset (readSigned 32 (now (s .entry)) at) ⌝ }
+    ensures { λ r. ⌜ entryStep r ≡ withType false width (now (s .entry)) (state before kind base) offset (readSigned false 32 (now (s .entry)) at) ⌝ }
 {
-    let second = leb128::read_signed(s, at, 32);
+    let second = leb128::read_signed(false, s, at, 32);
     let Signed::Value(d, next) = second else {
         let cause = second.cause();
         let why = cause.why;
@@ -105,9 +107,9 @@ fn with_type(
 // The record at a place, after one with this offset, this type and this addend.
 fn entry_at(s: &[u8], at: usize, width: u32, offset: u64, kind: u32, addend: i64) -> Entry
     requires { ⌜ IsWidth width ⌝ }
-    ensures { λ r. ⌜ entryStep r ≡ stepAt width (now (s .entry)) at (state offset kind addend) ⌝ }
+    ensures { λ r. ⌜ entryStep r ≡ stepAt false width (now (s .entry)) at (state offset kind addend) ⌝ }
 {
-    let first = leb128::read_unsigned(s, at, width);
+    let first = leb128::read_unsigned(false, s, at, width);
     let Unsigned::Value(d, next) = first else {
         let cause = first.cause();
         let why = cause.why;
@@ -124,40 +126,65 @@ fn entry_at(s: &[u8], at: usize, width: u32, offset: u64, kind: u32, addend: i64
     )
 }
 
-// The last number of the record at a place, whose next place is past the record, or the refusal of any.
-fn skip_at(s: &[u8], at: usize, width: u32) -> Signed
-    requires { ⌜ IsWidth width ⌝ }
-    ensures { λ r. ⌜ Skips width (now (s .entry)) at r ⌝ }
+// Whether an addend's difference changes nothing. It is asked strictly alone.
+fn no_change(strict: bool, change: i64) -> bool
+    ensures { λ r. ⌜ r ≡ noChange strict change ⌝ }
 {
-    let first = leb128::read_unsigned(s, at, width);
+    if strict {
+        return wrap::equal(change, 0);
+    }
+    false
+}
+
+// The addend's difference at a place, or its refusal.
+fn skip_addend(strict: bool, s: &[u8], at: usize, width: u32) -> Signed
+    requires { ⌜ IsWidth width ⌝ }
+    ensures { λ r. ⌜ r ≡ changeAt strict width (now (s .entry)) at ⌝ }
+{
+    let fourth = leb128::read_signed(strict, s, at, width);
+    let Signed::Value(change, _) = fourth else {
+        return fourth;
+    };
+    if no_change(strict, change) {
+        return Signed::Refused(Refusal::Zero, at);
+    }
+    fourth
+}
+
+// The last number of the record at a place, whose next place is past the record, or the refusal of any.
+fn skip_at(strict: bool, s: &[u8], at: usize, width: u32) -> Signed
+    requires { ⌜ IsWidth width ⌝ }
+    ensures { λ r. ⌜ Skips strict width (now (s .entry)) at r ⌝ }
+{
+    let first = leb128::read_unsigned(strict, s, at, width);
     let Unsigned::Value(_, next) = first else {
         let cause = first.cause();
         let why = cause.why;
         return Signed::Refused(why, cause.place);
     };
-    let second = leb128::read_signed(s, next, 32);
+    let second = leb128::read_signed(strict, s, next, 32);
     let Signed::Value(_, third_at) = second else {
         return second;
     };
-    let third = leb128::read_signed(s, third_at, 33);
+    let third = leb128::read_signed(strict, s, third_at, 33);
     let Signed::Value(field, past) = third else {
         return third;
     };
     if leb128::is_negative(field) {
-        return leb128::read_signed(s, past, width);
+        return skip_addend(strict, s, past, width);
     }
     Signed::Value(field, past)
 }
 
 // The first pass over so many records from a place on: their count, or the refusal. It needs no sums: none is refused.
-fn walk(s: &[u8], width: u32, count: u64, first: usize) -> Found
+fn walk(strict: bool, s: &[u8], width: u32, count: u64, first: usize) -> Found
     requires { ⌜ IsWidth width ⌝ }
-    ensures { λ r. ⌜ r ≡ foundOf (records (stepAt width (now (s .entry))) (length (now (s .entry))) count first start) ⌝ }
+    ensures { λ r. ⌜ r ≡ foundOf (records (stepAt strict width (now (s .entry))) (length (now (s .entry))) count first start) ⌝ }
 {
     let mut left = count;
     let mut at = first;
     while 0 < left {
-        let skipped = skip_at(s, at, width);
+        let skipped = skip_at(strict, s, at, width);
         let Signed::Value(_, past) = skipped else {
             let cause = skipped.cause();
             let why = cause.why;
@@ -173,28 +200,28 @@ fn walk(s: &[u8], width: u32, count: u64, first: usize) -> Found
 }
 
 // The first pass over a table, however long it is.
-fn scan(s: &[u8], width: u32) -> Found
+fn scan(strict: bool, s: &[u8], width: u32) -> Found
     requires { ⌜ IsWidth width ⌝ }
-    ensures { λ r. ⌜ r ≡ foundOf (parse width (now (s .entry))) ⌝ }
+    ensures { λ r. ⌜ r ≡ foundOf (parse strict width (now (s .entry))) ⌝ }
 {
-    let head = leb128::read_unsigned(s, 0, 64);
+    let head = leb128::read_unsigned(strict, s, 0, 64);
     let Unsigned::Value(count, first) = head else {
         let cause = head.cause();
         let why = cause.why;
         return Found::Refused(why, cause.place as u64);
     };
-    walk(s, width, count, first)
+    walk(strict, s, width, count, first)
 }
 
 // The count of the records of a table, or the refusal: first that of a table over its limit.
-pub fn check(s: &[u8], width: u32) -> Found
+pub fn check(strict: bool, s: &[u8], width: u32) -> Found
     requires { ⌜ IsWidth width ⌝ }
-    ensures { λ r. ⌜ r ≡ foundOf (decode width (now (s .entry))) ⌝ }
+    ensures { λ r. ⌜ r ≡ foundOf (decode strict width (now (s .entry))) ⌝ }
 {
     if INPUT_LIMIT < s.len() {
         return Found::Refused(Refusal::Limit, 0);
     }
-    scan(s, width)
+    scan(strict, s, width)
 }
 
 // The second pass over records that the first accepted.
@@ -208,8 +235,8 @@ fn store(
     symbols: &mut [u32],
     addends: &mut [i64],
 )
-    requires { ⌜ (IsWidth width) × (Fillable (records (stepAt width (now s)) (length (now s)) count first start) (now offsets) (now types) (now symbols) (now addends)) ⌝ }
-    ensures { λ _. ⌜ Filled (records (stepAt width (now (s .entry))) (length (now (s .entry))) count first start) (now (offsets .entry)) (now (types .entry)) (now (symbols .entry)) (now (addends .entry)) (now (offsets .exit)) (now (types .exit)) (now (symbols .exit)) (now (addends .exit)) ⌝ }
+    requires { ⌜ (IsWidth width) × (Fillable (records (stepAt false width (now s)) (length (now s)) count first start) (now offsets) (now types) (now symbols) (now addends)) ⌝ }
+    ensures { λ _. ⌜ Filled (records (stepAt false width (now (s .entry))) (length (now (s .entry))) count first start) (now (offsets .entry)) (now (types .entry)) (now (symbols .entry)) (now (addends .entry)) (now (offsets .exit)) (now (types .exit)) (now (symbols .exit)) (now (addends .exit)) ⌝ }
 {
     let mut rest = count;
     let mut from = first;
@@ -247,10 +274,10 @@ pub fn fill(
     symbols: &mut [u32],
     addends: &mut [i64],
 )
-    requires { ⌜ (IsWidth width) × (Fillable (decode width (now s)) (now offsets) (now types) (now symbols) (now addends)) ⌝ }
-    ensures { λ _. ⌜ Filled (decode width (now (s .entry))) (now (offsets .entry)) (now (types .entry)) (now (symbols .entry)) (now (addends .entry)) (now (offsets .exit)) (now (types .exit)) (now (symbols .exit)) (now (addends .exit)) ⌝ }
+    requires { ⌜ (IsWidth width) × (Fillable (decode false width (now s)) (now offsets) (now types) (now symbols) (now addends)) ⌝ }
+    ensures { λ _. ⌜ Filled (decode false width (now (s .entry))) (now (offsets .entry)) (now (types .entry)) (now (symbols .entry)) (now (addends .entry)) (now (offsets .exit)) (now (types .exit)) (now (symbols .exit)) (now (addends .exit)) ⌝ }
 {
-    let head = leb128::read_unsigned(s, 0, 64);
+    let head = leb128::read_unsigned(false, s, 0, 64);
     let Unsigned::Value(count, first) = head else {
         return;
     };
