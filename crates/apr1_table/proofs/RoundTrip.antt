@@ -166,44 +166,44 @@ puts-pairs [] i s h = puts-end putPair reach i s ∙ rw pair-bytes-none
 puts-pairs (p ∷ ps) i s h =
     puts-more putPair reach i s p ps (rw (le-leb (reach s p) last (h .0))) ∙ after-accepted (onePair p) (puts-pairs ps (i + 1) (reach s p) (h .1)) ∙ rw pair-bytes-more
 
-read-pair : (pre post : List ℕ) (s : ℕ) (p : Pair) → s ≤ last → Fine p → reach s p ≤ last
-    → stepAt (pre ++ (onePair p ++ post)) (length pre) s ≡ one p (length pre + length (onePair p)) (reach s p)
-read-pair pre post s p g f h =
+read-pair : (strict : Bool) (pre post : List ℕ) (s : ℕ) (p : Pair) → s ≤ last → Fine p → reach s p ≤ last
+    → stepAt strict (pre ++ (onePair p ++ post)) (length pre) s ≡ one p (length pre + length (onePair p)) (reach s p)
+read-pair strict pre post s p g f h =
     let c = shortUnsigned (p .count) in
     let d = shortUnsigned (p .gap) in
     let w : 0 < 32 = omega arith in
     let t : List ℕ = pre ++ (onePair p ++ post) in
     let i : t ≡ pre ++ (c ++ (d ++ post)) = ap (λ (m : List ℕ). pre ++ (m ++ post)) (one-bytes (p .count) (p .gap)) ∙ ap (λ (m : List ℕ). pre ++ m) (append-assoc c d post) in
     let j : t ≡ (pre ++ c) ++ (d ++ post) = i ∙ sym (append-assoc pre c (d ++ post)) in
-    let r = unsigned-here 32 t pre (d ++ post) (length pre) w refl (p .count) (f .0) i in
-    let q = unsigned-here 32 t (pre ++ c) post (length (pre ++ c)) w refl (p .gap) (f .1) j in
+    let r = unsigned-here strict 32 t pre (d ++ post) (length pre) w refl (p .count) (f .0) i in
+    let q = unsigned-here strict 32 t (pre ++ c) post (length (pre ++ c)) w refl (p .gap) (f .1) j in
     let n : length ((pre ++ c) ++ d) ≡ length pre + length (onePair p) =
     omega (arith, length-append (pre ++ c) d, length-append pre c, ap length (one-bytes (p .count) (p .gap)), length-append c d) in
-    step-is t (length pre) s r q g h ∙ ap (λ (m : ℕ). one p m (reach s p)) n
+    step-is strict t (length pre) s r q g h ∙ ap (λ (m : ℕ). one p m (reach s p)) n
 
-pair-back : (pre post b : List ℕ) (s : ℕ) (p : Pair) → s ≤ last → Fine p → putPair s p ≡ bytes b
-    → (stepAt (pre ++ (b ++ post)) (length pre) s ≡ one p (length pre + length b) (reach s p)) × (reach s p ≤ last)
+pair-back : (strict : Bool) (pre post b : List ℕ) (s : ℕ) (p : Pair) → s ≤ last → Fine p → putPair s p ≡ bytes b
+    → (stepAt strict (pre ++ (b ++ post)) (length pre) s ≡ one p (length pre + length b) (reach s p)) × (reach s p ≤ last)
 unfolding putPair
-pair-back pre post b s p g f e = go (decLe (reach s p) last)
+pair-back strict pre post b s p g f e = go (decLe (reach s p) last)
   where
-    go : Dec (reach s p ≤ last) → (stepAt (pre ++ (b ++ post)) (length pre) s ≡ one p (length pre + length b) (reach s p)) × (reach s p ≤ last)
+    go : Dec (reach s p ≤ last) → (stepAt strict (pre ++ (b ++ post)) (length pre) s ≡ one p (length pre + length b) (reach s p)) × (reach s p ≤ last)
     go (no h) =
         let q : unput why.Space ≡ bytes b = sym (ap (λ (t : Bool). cond t (bytes (onePair p)) (unput why.Space)) (lt-leb (reach s p) last (omega arith))) ∙ e in
         let z : _≡_ {A = ℕ} 0 1 = cc in absurd (omega arith)
     go (yes h) =
         let q : bytes (onePair p) ≡ bytes b = sym (ap (λ (t : Bool). cond t (bytes (onePair p)) (unput why.Space)) (le-leb (reach s p) last h)) ∙ e in
         let k : onePair p ≡ b = cc in
-        (subst (λ (m : List ℕ). stepAt (pre ++ (m ++ post)) (length pre) s ≡ one p (length pre + length m) (reach s p)) k (read-pair pre post s p g f h), h)
+        (subst (λ (m : List ℕ). stepAt strict (pre ++ (m ++ post)) (length pre) s ≡ one p (length pre + length m) (reach s p)) k (read-pair strict pre post s p g f h), h)
 
 -- ---- a table whose head and pairs are read
-parse-at : (s : List ℕ) (n a next first : ℕ) {ps : List Pair} → startsWith identifier s ≡ true → readUnsigned 32 s 4 ≡ Value n next → readUnsigned 32 s next ≡ Value a first → a ≤ last
-    → records (stepAt s) (length s) n first a ≡ accepted ps → parse s ≡ accepted (a ∷ expand a ps)
+parse-at : (strict : Bool) (s : List ℕ) (n a next first : ℕ) {ps : List Pair} → startsWith identifier s ≡ true → readUnsigned strict 32 s 4 ≡ Value n next → readUnsigned strict 32 s next ≡ Value a first → a ≤ last
+    → records (stepAt strict s) (length s) n first a ≡ accepted ps → parse strict s ≡ accepted (a ∷ expand a ps)
 unfolding parse withCount withFirst
-parse-at s n a next first i c d h e = rw (i, c, d, le-leb a last h) (joined-is a e)
+parse-at strict s n a next first i c d h e = rw (i, c, d, le-leb a last h) (joined-is a e)
 
 -- ---- the round trip: a written table is read as the list
-parse-build : (l : List ℕ) → 0 < length l → length l ≤ listLimit → Rising 0 l → parse (tableIn l) ≡ accepted l
-parse-build l some few r =
+parse-build : (strict : Bool) (l : List ℕ) → 0 < length l → length l ≤ listLimit → Rising 0 l → parse strict (tableIn l) ≡ accepted l
+parse-build strict l some few r =
     let a : ℕ = headIn l in
     let q : l ≡ a ∷ drop 1 l = from-head l some in
     let u : (0 ≤ a) × (a ≤ last) × Rising (suc a) (drop 1 l) = subst (Rising 0) q r in
@@ -218,13 +218,13 @@ parse-build l some few r =
     let g : tableIn l ≡ (identifier ++ shortUnsigned n) ++ (shortUnsigned a ++ b) = f ∙ sym (append-assoc identifier (shortUnsigned n) (shortUnsigned a ++ b)) in
     let w : 0 < 32 = omega arith in
     let s = ap (startsWith identifier) f ∙ starts-same identifier (shortUnsigned n ++ (shortUnsigned a ++ b)) in
-    let c = unsigned-here 32 (tableIn l) identifier (shortUnsigned a ++ b) 4 w refl n k f in
-    let d = unsigned-here 32 (tableIn l) (identifier ++ shortUnsigned n) b (length (identifier ++ shortUnsigned n)) w refl a v g in
+    let c = unsigned-here strict 32 (tableIn l) identifier (shortUnsigned a ++ b) 4 w refl n k f in
+    let d = unsigned-here strict 32 (tableIn l) (identifier ++ shortUnsigned n) b (length (identifier ++ shortUnsigned n)) w refl a v g in
     let h : length ((identifier ++ shortUnsigned n) ++ shortUnsigned a) ≡ length (headOf n a) =
     ap length (append-assoc identifier (shortUnsigned n) (shortUnsigned a) ∙ sym (head-bytes n a)) in
-    let z : records (stepAt (tableIn l)) (length (tableIn l)) n (length (headOf n a)) a ≡ accepted (pairsIn l) =
-    rw e (back stepAt putPair reach (λ (x : ℕ). x ≤ last) Fine pair-back (pairsIn l) 0 a (headOf n a) (u .1) (m .fine) (puts-pairs (pairsIn l) 0 a (m .stays))) in
-    parse-at (tableIn l) n a _ _ s c d (u .1) (ap (λ (i : ℕ). records (stepAt (tableIn l)) (length (tableIn l)) n i a) h ∙ z)
+    let z : records (stepAt strict (tableIn l)) (length (tableIn l)) n (length (headOf n a)) a ≡ accepted (pairsIn l) =
+    rw e (back (stepAt strict) putPair reach (λ (x : ℕ). x ≤ last) Fine (pair-back strict) (pairsIn l) 0 a (headOf n a) (u .1) (m .fine) (puts-pairs (pairsIn l) 0 a (m .stays))) in
+    parse-at strict (tableIn l) n a _ _ s c d (u .1) (ap (λ (i : ℕ). records (stepAt strict (tableIn l)) (length (tableIn l)) n i a) h ∙ z)
     ∙ ap accepted (ap (λ (t : List ℕ). a ∷ t) (m .gives) ∙ sym q)
 
 -- a table has at most 4 bytes, and 10 for each offset
@@ -253,8 +253,8 @@ module _ (l : List ℕ) {b : List ℕ} (e : encode l ≡ accepted b) where
   encode-fits = rw (encode-is l e) (table-fits l (encode-legal l e))
 
   -- and reads back as the list
-  pub decode-encode : decode b ≡ accepted l
+  pub decode-encode : (strict : Bool) → decode strict b ≡ accepted l
   unfolding decode
-  decode-encode =
+  decode-encode strict =
       let w = encode-legal l e in
-      limited-in inputLimit (length b) (parse b) encode-fits ∙ rw (encode-is l e) (parse-build l (w .some) (w .few) (w .rising))
+      limited-in inputLimit (length b) (parse strict b) encode-fits ∙ rw (encode-is l e) (parse-build strict l (w .some) (w .few) (w .rising))

@@ -20,16 +20,17 @@ fn same_length(offsets: usize, types: usize, symbols: usize, addends: usize) -> 
     offsets == addends
 }
 
-// The records of a table, into a column for each field.
+// The records of a table, into a column for each field. Strictly a padded number is refused, and an addend's difference of 0.
 pub fn read(
     class: u32,
+    strict: bool,
     table: &[u8],
     offsets: &mut [u64],
     types: &mut [u32],
     symbols: &mut [u32],
     addends: &mut [i64],
 ) -> Answer
-    ensures { λ r. ⌜ Reads class (now (table .entry)) (now (offsets .entry)) (now (types .entry)) (now (symbols .entry)) (now (addends .entry)) r (now (offsets .exit)) (now (types .exit)) (now (symbols .exit)) (now (addends .exit)) ⌝ }
+    ensures { λ r. ⌜ Reads class strict (now (table .entry)) (now (offsets .entry)) (now (types .entry)) (now (symbols .entry)) (now (addends .entry)) r (now (offsets .exit)) (now (types .exit)) (now (symbols .exit)) (now (addends .exit)) ⌝ }
 {
     let named = Size::named(class);
     let Named::Is(kind) = named else {
@@ -39,7 +40,7 @@ pub fn read(
         return answer::refuse(Refusal::Columns, 0);
     }
     let width = kind.bits();
-    match relleb_read::check(table, width) {
+    match relleb_read::check(strict, table, width) {
         Found::Refused(why, place) => answer::refuse(why, place),
         Found::Count(count) => {
             if (offsets.len() as u64) < count {

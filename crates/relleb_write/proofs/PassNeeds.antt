@@ -91,7 +91,7 @@ module _ {W : ℕ} {os ts ys : List ℕ} {us : List ℤ} {total o t w i : ℕ} (
       let p = sized-end (g .sized) (omega (arith, many os ts ys us (l .same))) ∙ ap foundOf (sym limit) in
       record {
         found = p;
-        back = λ b q. decode-encode W (rows os ts ys us) wide q (rows-fine os ts ys us (l .same) (λ j k. (kinds j .fits, indexes j .fits)));
+        back = λ strict b q. decode-encode W (rows os ts ys us) wide q (rows-fine os ts ys us (l .same) (λ j k. (kinds j .fits, indexes j .fits))) strict;
         wide = λ v k. (let c = found-count (encode W (rows os ts ys us)) (sym p) in record { list = c .list; is = c .is });
       }
 
@@ -111,7 +111,7 @@ size-bad {W} {os} {ts} {ys} {us} {i = i} f e g l h m wide =
     let p = sized-bad (g .sized) (here os ts ys us (l .same) i h m) (sym e ∙ ap fieldsPut f) ∙ ap foundOf (sym (limit l g)) in
     record {
       found = p;
-      back = λ b q. absurd (accepted-refused q (not-found (encode W (rows os ts ys us)) (sym p)));
+      back = λ strict b q. absurd (accepted-refused q (not-found (encode W (rows os ts ys us)) (sym p)));
       wide = λ v k. absurd (put-wide W _ (rowAt os ts ys us i) v (wide i .fits) (rw (toZ-ofZ {w = w64} (sfits-of m)) m) (sym e ∙ ap fieldsPut f));
     }
 
@@ -122,7 +122,7 @@ module _ (W : ℕ) {os ts ys : List ℕ} {us : List ℤ} (same : Same os ts ys u
   pub measure-over : listLimit < length os → Measures W os ts ys us (found.Refused Limit 0)
   measure-over h =
       let e = encode-over W (rows os ts ys us) (omega (arith, many os ts ys us same)) in
-      record { found = sym (found-refused e); back = λ b f. absurd (accepted-refused f e); wide = λ v k. absurd (omega arith) }
+      record { found = sym (found-refused e); back = λ strict b f. absurd (accepted-refused f e); wide = λ v k. absurd (omega arith) }
 
 pub ruleset measures = (measure-over, class-width, measures-at, needs)
 

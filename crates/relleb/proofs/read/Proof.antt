@@ -1,5 +1,5 @@
 use borrow.Author.Needs.{needs}
-use Rattle.relleb_table.specs.Contract.Laws.{reading}
+use Rattle.relleb_table.specs.Contract.Laws.{fillable, reading}
 use Rattle.relleb.proofs.read.Statement.{statement}
 use Rattle.relleb.proofs.read.Tie as tie
 
@@ -49,7 +49,11 @@ returns-3 : tie.Need-returns-3
 returns-3 c = search reading
 
 fill-requires : tie.Need-fill-requires
-fill-requires c κs = (search reading, search reading)
+fill-requires c κs =
+    let room = c .before .before .before .before in
+    let pass = room .before .before .before .before in
+    let even = pass .before .before in
+    (search reading, fillable _ _ _ _ _ _ _ (pass .check .ensures) (room .before .before .count .given .1) (even .before .same-length .ensures) (even .if1 .left) (room .if2 .left))
 
 accept-requires : tie.Need-accept-requires
 accept-requires c κs = search needs
