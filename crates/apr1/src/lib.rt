@@ -4,11 +4,11 @@ use answer::Answer;
 use answer::Found;
 use apr1_write::Sized;
 
-// The offsets of a table, into a column.
-pub fn read(table: &[u8], offsets: &mut [u64]) -> Answer
-    ensures { λ r. ⌜ Reads (now (table .entry)) (now (offsets .entry)) r (now (offsets .exit)) ⌝ }
+// The offsets of a table, into a column. Strictly a padded number is refused.
+pub fn read(strict: bool, table: &[u8], offsets: &mut [u64]) -> Answer
+    ensures { λ r. ⌜ Reads strict (now (table .entry)) (now (offsets .entry)) r (now (offsets .exit)) ⌝ }
 {
-    match apr1_read::check(table) {
+    match apr1_read::check(strict, table) {
         Found::Refused(why, place) => answer::refuse(why, place),
         Found::Count(count) => {
             if (offsets.len() as u64) < count {

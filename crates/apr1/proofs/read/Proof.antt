@@ -1,3 +1,4 @@
+use Rattle.apr1_table.specs.Contract.Laws.{fillable, reads-full}
 use Rattle.records.proofs.Reading.{calls}
 use borrow.Author.Needs.{needs}
 use Rattle.apr1.proofs.read.Statement.{statement}
@@ -29,7 +30,7 @@ returns : tie.Need-returns
 returns c = search calls
 
 fill-requires : tie.Need-fill-requires
-fill-requires c κs = search calls
+fill-requires c κs = search (fillable, needs)
 
 accept-requires : tie.Need-accept-requires
 accept-requires c κs = search needs
@@ -41,7 +42,7 @@ same-length : tie.Need-same-length
 same-length c = search needs
 
 returns-3 : tie.Need-returns-3
-returns-3 c = search calls
+returns-3 c = search (reads-full, needs)
 
 pub read-spec : {M : Type 1} → statement M
 read-spec =
