@@ -2,6 +2,7 @@
 -- Assumes nothing.
 use Prim.Native.Nat.{ℕ, _+_, _≤_}
 use mathlib.Core.Path.{_≡_, ap, sym, _∙_}
+use mathlib.Core.Bool.{false}
 use mathlib.Core.List.{List, _++_}
 use native.Mathlib.Omega.{arith}
 use lib.IntN.{ℤ}
@@ -14,13 +15,13 @@ use Rattle.answer.specs.Written.{Written, written-then}
 use Rattle.leb128.specs.Number.{readUnsigned, shortUnsigned, shortSigned}
 use Rattle.leb128.specs.declared.Unsigned.{Unsigned}
 use Rattle.leb128.specs.declared.Unsigned.the-variants.{Value as UValue, Refused as URefused}
-use Rattle.leb128.proofs.Laws.{unsigned-value}
+use Rattle.leb128.proofs.Setting.{unsigned-value}
 use Rattle.cases.specs.U32.{wordOf, readU32}
 use Rattle.cases.specs.declared.leb.Word.the-variants.{Value, Refused}
 
-module _ (s : List ℕ) (at : ℕ) {r : Unsigned} (e : r ≡ readUnsigned 32 s at) where
+module _ (s : List ℕ) (at : ℕ) {r : Unsigned} (e : r ≡ readUnsigned false 32 s at) where
   pub value-fits : {v next : ℕ} → r ≡ UValue v next → Fits w32 v
-  value-fits f = record { fits = unsigned-value 32 s at _ _ (sym e ∙ f) .0 }
+  value-fits f = record { fits = unsigned-value false 32 s at _ _ (sym e ∙ f) .0 }
 
   pub value-is : {v next : ℕ} → r ≡ UValue v next → Value v next ≡ readU32 s at
   value-is f = ap wordOf (sym f ∙ e)

@@ -1,7 +1,8 @@
--- Document 01's starred cases and its case N, RELR's in both byte orders, and document 02's §1 and §9: one table, and one claim, that each of its rows holds.
+-- Document 01's starred cases and its case N, RELR's in both byte orders, and document 02's §1, §6 and §9: one table, and one claim, that each of its rows holds.
 -- Assumes nothing.
 use Prim.Native.Nat.{ℕ}
 use mathlib.Core.Path.{_≡_, refl}
+use mathlib.Core.Bool.{Bool, true, false}
 use mathlib.Core.List.{List, [], _∷_}
 use lib.IntN.{ℤ, pos, negsuc}
 use lib.ListN.{length}
@@ -16,10 +17,10 @@ use Rattle.word.specs.Word.{valueOf, bytesIn, arranged, wordAt, withWord, first
 use Rattle.relr_table.specs.Words as relr
 use Rattle.relr_table.specs.Table.{parse, decode, checked, build, encode, leading, contained, targets, indexes, added, patched}
 use Rattle.relr_table.specs.Contract.{changed, imageAfter}
-use Rattle.leb128.specs.Number.{raw, readUnsigned, signed, readSigned, short, shortBy, shortUnsigned, shortSigned}
+use Rattle.leb128.specs.Number.{raw, laxUnsigned, readUnsigned, signed, laxSigned, readSigned, short, shortBy, shortUnsigned, shortSigned}
 use Rattle.leb128.specs.declared.Unsigned.the-variants.{Value as UValue}
 use Rattle.leb128.specs.declared.Signed.the-variants.{Value as SValue}
-use Rattle.answer.specs.declared.Refusal.the-variants.{Outside}
+use Rattle.answer.specs.declared.Refusal.the-variants.{Width, Space, Outside, Padded, Zero}
 use Rattle.answer.specs.Outcome.{Outcome, accepted, refused, inputLimit, listLimit, before, after}
 use Rattle.records.specs.Columns.{Each}
 use Rattle.records.specs.Identifier.{startsWith}
@@ -32,7 +33,7 @@ use Rattle.relleb_table.specs.Table as relleb
 
 -- a row: what is written and what it stands for, to be read and to be written; the bytes of words, low byte first and high byte first; a table that
 -- is applied: its words, the base, the start, the words of the image before, the outcome and the words of the image after; or the bytes of a table
--- that is read in the other order, and what it reads as
+-- that is read in the other order, or by each setting, and what it reads as
 pub data Case : Type 0 where
   unsignedNumber : ℕ → List ℕ → ℕ → Case
   signedNumber : ℕ → List ℕ → ℤ → Case
@@ -43,6 +44,9 @@ pub data Case : Type 0 where
   apr1Table : List ℕ → List ℕ → Case
   apa1Table : List ℕ → List apa1.Row → Case
   rellebTable : ℕ → List ℕ → List relleb.Row → Case
+  apr1Other : List ℕ → Outcome (List ℕ) → Outcome (List ℕ) → Case
+  apa1Other : List ℕ → Outcome (List apa1.Row) → Outcome (List apa1.Row) → Case
+  rellebOther : ℕ → List ℕ → Outcome (List relleb.Row) → Outcome (List relleb.Row) → Case
 
 -- in an order, the bytes of a table's words decode to the offsets, and are their table
 pub Packed : Size → List ℕ → List ℕ → ByteOrder → Type 0
@@ -61,18 +65,30 @@ PatchedTo z words base start old o new order =
 abbrev pub InBoth : (ByteOrder → Type 0) → Type 0
 InBoth P = P Little × P Big
 
--- what a row says: the bytes, at a width, read as the value, and are its shortest form; a table's bytes, or its words in each order, decode to the
--- list, and are its table; in each order a table that is applied has that outcome, and makes of the one image the other
+-- by each setting, lax and strict
+abbrev pub ByBoth : (Bool → Type 0) → Type 0
+ByBoth P = P false × P true
+
+-- laxly the one, strictly the other
+abbrev pub Either : {A : Type 0} → (Bool → Outcome A) → Outcome A → Outcome A → Type 0
+Either f lax strict = (f false ≡ lax) × (f true ≡ strict)
+
+-- what a row says: the bytes, at a width, read by each setting as the value, and are its shortest form; a table's bytes, or its words in each
+-- order, decode to the list, by each setting, and are its table; in each order a table that is applied has that outcome, and makes of the one image
+-- the other; another table has those outcomes laxly and strictly
 pub Holds : Case → Type 0
-Holds (unsignedNumber width bytes v) = (readUnsigned width bytes 0 ≡ UValue v (length bytes)) × (shortUnsigned v ≡ bytes)
-Holds (signedNumber width bytes z) = (readSigned width bytes 0 ≡ SValue z (length bytes)) × (shortSigned z ≡ bytes)
+Holds (unsignedNumber width bytes v) = ByBoth (λ (t : Bool). readUnsigned t width bytes 0 ≡ UValue v (length bytes)) × (shortUnsigned v ≡ bytes)
+Holds (signedNumber width bytes z) = ByBoth (λ (t : Bool). readSigned t width bytes 0 ≡ SValue z (length bytes)) × (shortSigned z ≡ bytes)
 Holds (relrTable z offsets words) = InBoth (Packed z offsets words)
 Holds (relrLaid z words low high) = (bytesOfWords (classIn z Little) words ≡ low) × (bytesOfWords (classIn z Big) words ≡ high)
 Holds (relrApplied z words base start old o new) = InBoth (PatchedTo z words base start old o new)
 Holds (relrOther k bytes o) = decode k bytes ≡ o
-Holds (apr1Table bytes l) = (apr1.decode bytes ≡ accepted l) × (apr1.encode l ≡ accepted bytes)
-Holds (apa1Table bytes l) = (apa1.decode bytes ≡ accepted l) × (apa1.encode l ≡ accepted bytes)
-Holds (rellebTable width bytes l) = (relleb.decode width bytes ≡ accepted l) × (relleb.encode width l ≡ accepted bytes)
+Holds (apr1Table bytes l) = ByBoth (λ (t : Bool). apr1.decode t bytes ≡ accepted l) × (apr1.encode l ≡ accepted bytes)
+Holds (apa1Table bytes l) = ByBoth (λ (t : Bool). apa1.decode t bytes ≡ accepted l) × (apa1.encode l ≡ accepted bytes)
+Holds (rellebTable width bytes l) = ByBoth (λ (t : Bool). relleb.decode t width bytes ≡ accepted l) × (relleb.encode width l ≡ accepted bytes)
+Holds (apr1Other bytes lax strict) = Either (λ (t : Bool). apr1.decode t bytes) lax strict
+Holds (apa1Other bytes lax strict) = Either (λ (t : Bool). apa1.decode t bytes) lax strict
+Holds (rellebOther width bytes lax strict) = Either (λ (t : Bool). relleb.decode t width bytes) lax strict
 
 -- images of eight bytes: their words
 abbrev full : Size → List ℕ
@@ -129,19 +145,29 @@ worked =
     ∷ apa1Table (0x41 ∷ 0x50 ∷ 0x41 ∷ 0x31 ∷ 0x02 ∷ 0x80 ∷ 0x20 ∷ 0x10 ∷ 0x08 ∷ 0x08 ∷ []) (apa1.row 0x1000 (pos 16) ∷ apa1.row 0x1008 (pos 24) ∷ [])
     -- P
     ∷ rellebTable 64 (0x02 ∷ 0x10 ∷ 0x81 ∷ 0x02 ∷ 0x7C ∷ 0x7C ∷ 0x08 ∷ 0x00 ∷ 0x03 ∷ []) (relleb.row 16 257 3 (negsuc 3) ∷ relleb.row 24 257 3 (negsuc 3) ∷ [])
+    -- §6: a padded A, and a padded D of a pair that passes the space
+    ∷ apr1Other (0x41 ∷ 0x50 ∷ 0x52 ∷ 0x31 ∷ 0x00 ∷ 0x84 ∷ 0x00 ∷ []) (accepted (4 ∷ [])) (refused Padded 5)
+    ∷ apr1Other (0x41 ∷ 0x50 ∷ 0x52 ∷ 0x31 ∷ 0x01 ∷ 0xFC ∷ 0xFF ∷ 0xFF ∷ 0xFF ∷ 0x0F ∷ 0x01 ∷ 0x84 ∷ 0x00 ∷ []) (refused Space 10) (refused Padded 11)
+    -- a padded count, one that is negative too, and a padded difference of -1
+    ∷ apa1Other (0x41 ∷ 0x50 ∷ 0x41 ∷ 0x31 ∷ 0x80 ∷ 0x00 ∷ []) (accepted []) (refused Padded 4)
+    ∷ apa1Other (0x41 ∷ 0x50 ∷ 0x41 ∷ 0x31 ∷ 0xC0 ∷ 0x7F ∷ []) (refused Width 4) (refused Width 4)
+    ∷ apa1Other (0x41 ∷ 0x50 ∷ 0x41 ∷ 0x31 ∷ 0x01 ∷ 0x08 ∷ 0xFF ∷ 0x7F ∷ []) (accepted (apa1.row 8 (negsuc 0) ∷ [])) (refused Padded 6)
+    -- an addend's difference of 0, and one that is padded too
+    ∷ rellebOther 32 (0x01 ∷ 0x10 ∷ 0x00 ∷ 0x7C ∷ 0x00 ∷ []) (accepted (relleb.row 16 0 3 (pos 0) ∷ [])) (refused Zero 4)
+    ∷ rellebOther 64 (0x01 ∷ 0x10 ∷ 0x00 ∷ 0x7C ∷ 0x80 ∷ 0x00 ∷ []) (accepted (relleb.row 16 0 3 (pos 0) ∷ [])) (refused Padded 4)
     ∷ []
 
 -- each of them holds
 pub claim : Each Holds worked
-unfolding Holds Packed PatchedTo worked inputLimit listLimit readUnsigned readSigned raw signed short shortBy before after
+unfolding Holds Packed PatchedTo worked inputLimit listLimit readUnsigned laxUnsigned readSigned laxSigned raw signed short shortBy before after
     valueOf bytesIn arranged wordAt withWord firstWords wordsOf bytesOfWords
     relr.marked relr.fit relr.anchored relr.read relr.falls relr.bit relr.word relr.first relr.write relr.table
     parse decode checked build encode leading contained targets indexes added patched changed imageAfter
     startsWith stepThen records counted putThen puts residue signedIn same
     apr1.run apr1.expand apr1.secondOf apr1.firstOf apr1.stepAt apr1.joined apr1.withFirst apr1.withCount apr1.parse apr1.decode apr1.pairThen
     apr1.pairsFrom apr1.onePair apr1.pairBytes apr1.headOf apr1.tableOf apr1.checked apr1.build apr1.encode
-    apa1.secondOf apa1.firstOf apa1.stepAt apa1.countOf apa1.headAt apa1.parse apa1.decode apa1.entryBytes apa1.headOf apa1.build apa1.encode
+    apa1.secondOf apa1.firstOf apa1.stepAt apa1.plain apa1.countOf apa1.headAt apa1.parse apa1.decode apa1.entryBytes apa1.headOf apa1.build apa1.encode
     relleb.withAddend relleb.withSymbol relleb.withType relleb.withOffset relleb.stepAt relleb.parse relleb.decode relleb.fieldOf relleb.symbolBytes
     relleb.typeBytes relleb.fieldBytes relleb.entryBytes relleb.putOf relleb.build relleb.encode
 claim =
-    ((refl, refl), ((refl, refl), (((refl, refl), (refl, refl)), (((refl, refl), (refl, refl)), (((refl, refl), (refl, refl)), (((refl, refl), (refl, refl)), (((refl, refl), (refl, refl)), (((refl, refl), (refl, refl)), (((refl, refl), (refl, refl)), (((refl, refl), (refl, refl)), (((refl, refl), (refl, refl)), (((refl, refl), (refl, refl)), (((refl, refl), (refl, refl)), (((refl, refl), (refl, refl)), (((refl, refl), (refl, refl)), (((refl, refl), (refl, refl)), (((refl, refl), (refl, refl)), (((refl, refl), (refl, refl)), ((refl, refl), ((refl, refl), (refl, (refl, (((refl, refl), (refl, refl)), ((refl, refl), ((refl, refl), ((refl, refl), tt))))))))))))))))))))))))))
+    (((refl, refl), refl), (((refl, refl), refl), (((refl, refl), (refl, refl)), (((refl, refl), (refl, refl)), (((refl, refl), (refl, refl)), (((refl, refl), (refl, refl)), (((refl, refl), (refl, refl)), (((refl, refl), (refl, refl)), (((refl, refl), (refl, refl)), (((refl, refl), (refl, refl)), (((refl, refl), (refl, refl)), (((refl, refl), (refl, refl)), (((refl, refl), (refl, refl)), (((refl, refl), (refl, refl)), (((refl, refl), (refl, refl)), (((refl, refl), (refl, refl)), (((refl, refl), (refl, refl)), (((refl, refl), (refl, refl)), ((refl, refl), ((refl, refl), (refl, (refl, (((refl, refl), (refl, refl)), (((refl, refl), refl), (((refl, refl), refl), (((refl, refl), refl), ((refl, refl), ((refl, refl), ((refl, refl), ((refl, refl), ((refl, refl), ((refl, refl), ((refl, refl), tt)))))))))))))))))))))))))))))))))

@@ -1,6 +1,7 @@
--- The number reader at width 32, as an enum of this crate.
+-- The lax number reader at width 32, as an enum of this crate.
 -- Assumes nothing.
 use Prim.Native.Nat.{ℕ}
+use mathlib.Core.Bool.{false}
 use mathlib.Core.List.{List}
 use Rattle.leb128.specs.Number.{readUnsigned}
 use Rattle.leb128.specs.declared.Unsigned.{Unsigned}
@@ -15,4 +16,4 @@ wordOf (URefused why place) = Refused why place
 
 -- what is read at a place
 abbrev pub readU32 : List ℕ → ℕ → Word
-readU32 s at = wordOf (readUnsigned 32 s at)
+readU32 s at = wordOf (readUnsigned false 32 s at)

@@ -21,7 +21,7 @@ pub enum Word {
 fn read_u32(s: &[u8], at: usize) -> Word
     ensures { λ r. ⌜ r ≡ readU32 (now (s .entry)) at ⌝ }
 {
-    match leb128::read_unsigned(s, at, 32) {
+    match leb128::read_unsigned(false, s, at, 32) {
         Unsigned::Value(v, next) => Word::Value(v as u32, next),
         Unsigned::Refused(why, place) => Word::Refused(why, place),
     }
@@ -62,7 +62,7 @@ fn answer_signed(r: Signed) {
     }
 }
 
-// The shortest form of x, and what it reads as.
+// The shortest form of x, and what it reads as strictly.
 fn unsigned(x: u64) {
     let mut room = [0u8; 16];
     if 16 < leb128::unsigned_len(x) {
@@ -72,7 +72,7 @@ fn unsigned(x: u64) {
     text::put(b"unsigned ");
     text::number(x);
     text::bytes(&room, end);
-    answer_unsigned(leb128::read_unsigned(&room, 0, 64));
+    answer_unsigned(leb128::read_unsigned(true, &room, 0, 64));
 }
 
 fn signed(x: i64) {
@@ -84,10 +84,10 @@ fn signed(x: i64) {
     text::put(b"signed ");
     text::signed(x);
     text::bytes(&room, end);
-    answer_signed(leb128::read_signed(&room, 0, 64));
+    answer_signed(leb128::read_signed(true, &room, 0, 64));
 }
 
-// The bytes from a place on, as a number of a width from 1 to 64 bits. Those up to `end` are shown.
+// The bytes from a place on, padded or not, as a number of a width from 1 to 64 bits. Those up to `end` are shown.
 fn show(s: &[u8], at: usize, width: u32, end: usize) {
     if width < 1 {
         return;
@@ -102,9 +102,9 @@ fn show(s: &[u8], at: usize, width: u32, end: usize) {
     text::put(b":");
     text::bytes(s, end);
     text::put(b"\n  unsigned");
-    answer_unsigned(leb128::read_unsigned(s, at, width));
+    answer_unsigned(leb128::read_unsigned(false, s, at, width));
     text::put(b"  signed");
-    answer_signed(leb128::read_signed(s, at, width));
+    answer_signed(leb128::read_signed(false, s, at, width));
 }
 
 fn read(s: &[u8], at: usize, width: u32) {
@@ -209,7 +209,7 @@ fn pair(x: u64, y: i64) {
             text::put(b" = ");
             text::number(v as u64);
             text::put(b" and");
-            answer_signed(leb128::read_signed(&out, next, 33));
+            answer_signed(leb128::read_signed(true, &out, next, 33));
         }
         Word::Refused(why, place) => text::refusal(why, place as u64),
     }

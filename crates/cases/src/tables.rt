@@ -5,7 +5,7 @@ use crate::text;
 fn apa1(table: &[u8]) {
     let mut offsets = [0u64; 64];
     let mut addends = [0i64; 64];
-    let r = apa1::read(table, &mut offsets, &mut addends);
+    let r = apa1::read(false, table, &mut offsets, &mut addends);
     text::put(b"apa1");
     text::bytes(table, table.len());
     text::put(b" answers ");

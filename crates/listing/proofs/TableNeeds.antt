@@ -73,21 +73,21 @@ module _ (s os ts ys : List ℕ) (us : List ℤ) {k : Kind} {r : Answer} {os′ 
   unfolding rowsOf
   relr-eight e c = rw e (offsets-read Relr64 s os ts ys us (relr.decoding 8 Little s) refl refl refl (f .offsets) (c .answer) (c .held))
 
-  pub apr1-read : k ≡ Apr1 → apr1.Reads s os r os′ → Reads k s r os′ ts ys us
+  pub apr1-read : k ≡ Apr1 → apr1.Reads false s os r os′ → Reads k s r os′ ts ys us
   unfolding rowsOf
-  apr1-read e c = rw e (offsets-read Apr1 s os ts ys us (apr1.decoding s) refl refl refl (f .offsets) (c .answer) (c .held))
+  apr1-read e c = rw e (offsets-read Apr1 s os ts ys us (apr1.decoding false s) refl refl refl (f .offsets) (c .answer) (c .held))
 
 -- ---- offsets with addends
 module _ (s os ts ys : List ℕ) (us : List ℤ) {k : Kind} {r : Answer} {os′ : List ℕ} {us′ : List ℤ} (f : Readable s os ts ys us) where
-  pub apa1-read : k ≡ Apa1 → apa1-contract.Reads s os us r os′ us′ → Reads k s r os′ ts ys us′
+  pub apa1-read : k ≡ Apa1 → apa1-contract.Reads false s os us r os′ us′ → Reads k s r os′ ts ys us′
   unfolding rowsOf
   apa1-read e c =
-      let o = apa1-laws.read-plain s (length os) (length us) (omega (arith, f .offsets, f .addends)) in
+      let o = apa1-laws.read-plain false s (length os) (length us) (omega (arith, f .offsets, f .addends)) in
       rw e
       (record {
-        answer = c .answer ∙ ap (answerIn (length os)) o ∙ ap (λ (n : ℕ). answerIn n (apa1.decode s)) (f .offsets) ∙ sym (answer-mapped pairRow recordLimit (apa1.decode s));
+        answer = c .answer ∙ ap (answerIn (length os)) o ∙ ap (λ (n : ℕ). answerIn n (apa1.decode false s)) (f .offsets) ∙ sym (answer-mapped pairRow recordLimit (apa1.decode false s));
         lines = λ l g h i j.
-            let v = source pairRow (apa1.decode s) g in
+            let v = source pairRow (apa1.decode false s) g in
             let n : length l ≡ length (v .list) = ap length (v .made) ∙ length-map (v .list) pairRow in
             let p : getD l i none ≡ pairRow (getD (v .list) i apa1.start) = ap (λ (w : List Row). getD w i none) (v .made) ∙ List·getD-map pairRow (v .list) i apa1.start in
             pair-line Apa1 i (rowAt os′ ts ys us′ i) (getD l i none) refl
@@ -97,13 +97,13 @@ module _ (s os ts ys : List ℕ) (us : List ℤ) {k : Kind} {r : Answer} {os′ 
 
 -- ---- whole records
 module _ (s os ts ys : List ℕ) (us : List ℤ) {k : Kind} {r : Answer} {os′ ts′ ys′ : List ℕ} {us′ : List ℤ} (f : Readable s os ts ys us) where
-  whole-read : (size : ℕ) (z : Size) → classOf size ≡ Is z → rowsOf k s ≡ relleb.decode (widthOf z) s
-      → relleb-contract.Reads size s os ts ys us r os′ ts′ ys′ us′ → Reads k s r os′ ts′ ys′ us′
+  whole-read : (size : ℕ) (z : Size) → classOf size ≡ Is z → rowsOf k s ≡ relleb.decode false (widthOf z) s
+      → relleb-contract.Reads size false s os ts ys us r os′ ts′ ys′ us′ → Reads k s r os′ ts′ ys′ us′
   whole-read size c e w d =
       let same : relleb-contract.Same os ts ys us =
       record { types = omega (arith, f .offsets, f .types); symbols = omega (arith, f .offsets, f .symbols); addends = omega (arith, f .offsets, f .addends) } in
-      let o : relleb-contract.decoding size s (length os) (length ts) (length ys) (length us) ≡ rowsOf k s =
-      relleb-laws.read-plain size s (length os) (length ts) (length ys) (length us) refl e (relleb-laws.same-even os ts ys us same) ∙ sym w in
+      let o : relleb-contract.decoding size false s (length os) (length ts) (length ys) (length us) ≡ rowsOf k s =
+      relleb-laws.read-plain size false s (length os) (length ts) (length ys) (length us) refl e (relleb-laws.same-even os ts ys us same) ∙ sym w in
       record {
         answer = d .answer ∙ ap (answerIn (length os)) o ∙ ap (λ (n : ℕ). answerIn n (rowsOf k s)) (f .offsets);
         lines = λ l g h i j.
@@ -118,11 +118,11 @@ module _ (s os ts ys : List ℕ) (us : List ℤ) {k : Kind} {r : Answer} {os′ 
             ∙ ap (row (getD l i none .offset) (getD l i none .type) (getD l i none .symbol)) z);
       }
 
-  pub relleb-four : k ≡ Relleb32 → relleb-contract.Reads 4 s os ts ys us r os′ ts′ ys′ us′ → Reads k s r os′ ts′ ys′ us′
+  pub relleb-four : k ≡ Relleb32 → relleb-contract.Reads 4 false s os ts ys us r os′ ts′ ys′ us′ → Reads k s r os′ ts′ ys′ us′
   unfolding rowsOf
   relleb-four e c = whole-read 4 Four refl (ap (λ (j : Kind). rowsOf j s) e) c
 
-  pub relleb-eight : k ≡ Relleb64 → relleb-contract.Reads 8 s os ts ys us r os′ ts′ ys′ us′ → Reads k s r os′ ts′ ys′ us′
+  pub relleb-eight : k ≡ Relleb64 → relleb-contract.Reads 8 false s os ts ys us r os′ ts′ ys′ us′ → Reads k s r os′ ts′ ys′ us′
   unfolding rowsOf
   relleb-eight e c = whole-read 8 Eight refl (ap (λ (j : Kind). rowsOf j s) e) c
 

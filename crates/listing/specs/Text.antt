@@ -103,14 +103,14 @@ unfoldable pub mapped : {A B : Type 0} → (A → B) → Outcome (List A) → Ou
 mapped f (accepted l) = accepted (map f l)
 mapped f (refused why p) = refused why p
 
--- what a table says, by its kind
+-- what a table says, by its kind; numbers may be padded
 unfoldable pub rowsOf : Kind → List ℕ → Outcome (List Row)
 rowsOf Relr32 s = mapped offsetRow (relr.decoding 4 Little s)
 rowsOf Relr64 s = mapped offsetRow (relr.decoding 8 Little s)
-rowsOf Apr1 s = mapped offsetRow (apr1.decoding s)
-rowsOf Apa1 s = mapped pairRow (apa1.decode s)
-rowsOf Relleb32 s = relleb.decode 32 s
-rowsOf Relleb64 s = relleb.decode 64 s
+rowsOf Apr1 s = mapped offsetRow (apr1.decoding false s)
+rowsOf Apa1 s = mapped pairRow (apa1.decode false s)
+rowsOf Relleb32 s = relleb.decode false 32 s
+rowsOf Relleb64 s = relleb.decode false 64 s
 
 -- ---- the lines
 

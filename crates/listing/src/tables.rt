@@ -19,7 +19,7 @@ const TABLE_LIMIT: usize = 16384;
 
 const RECORD_LIMIT: usize = 1024;
 
-// The records of a table, into a column for each field.
+// The records of a table, read laxly, into a column for each field.
 fn read(
     kind: Kind,
     table: &[u8],
@@ -34,10 +34,10 @@ fn read(
     match kind {
         Kind::Relr32 => relr::read(4, ByteOrder::Little, table, offsets),
         Kind::Relr64 => relr::read(8, ByteOrder::Little, table, offsets),
-        Kind::Apr1 => apr1::read(table, offsets),
-        Kind::Apa1 => apa1::read(table, offsets, addends),
-        Kind::Relleb32 => relleb::read(4, table, offsets, types, symbols, addends),
-        Kind::Relleb64 => relleb::read(8, table, offsets, types, symbols, addends),
+        Kind::Apr1 => apr1::read(false, table, offsets),
+        Kind::Apa1 => apa1::read(false, table, offsets, addends),
+        Kind::Relleb32 => relleb::read(4, false, table, offsets, types, symbols, addends),
+        Kind::Relleb64 => relleb::read(8, false, table, offsets, types, symbols, addends),
     }
 }
 

@@ -9,8 +9,8 @@ ghost use Rattle.relleb_table.specs.Contract.{Reads as RellebReads, Writes as R
 use answer::Answer;
 use word::ByteOrder;
 
-// The version as one number: 0.6.1.
-const VERSION: u32 = 6001;
+// The version as one number: 0.7.0.
+const VERSION: u32 = 7000;
 
 #[no_mangle]
 pub extern "C" fn reloc_version() -> u32
@@ -58,10 +58,10 @@ pub extern "C" fn reloc_relr_apply(
 }
 
 #[no_mangle]
-pub extern "C" fn reloc_apr1_read(table: &[u8], offsets: &mut [u64]) -> Answer
-    ensures { λ r. ⌜ Apr1Reads (now (table .entry)) (now (offsets .entry)) r (now (offsets .exit)) ⌝ }
+pub extern "C" fn reloc_apr1_read(strict: bool, table: &[u8], offsets: &mut [u64]) -> Answer
+    ensures { λ r. ⌜ Apr1Reads strict (now (table .entry)) (now (offsets .entry)) r (now (offsets .exit)) ⌝ }
 {
-    apr1::read(table, offsets)
+    apr1::read(strict, table, offsets)
 }
 
 #[no_mangle]
@@ -72,10 +72,15 @@ pub extern "C" fn reloc_apr1_write(offsets: &[u64], table: &mut [u8]) -> Answer
 }
 
 #[no_mangle]
-pub extern "C" fn reloc_apa1_read(table: &[u8], offsets: &mut [u64], addends: &mut [i64]) -> Answer
-    ensures { λ r. ⌜ Apa1Reads (now (table .entry)) (now (offsets .entry)) (now (addends .entry)) r (now (offsets .exit)) (now (addends .exit)) ⌝ }
+pub extern "C" fn reloc_apa1_read(
+    strict: bool,
+    table: &[u8],
+    offsets: &mut [u64],
+    addends: &mut [i64],
+) -> Answer
+    ensures { λ r. ⌜ Apa1Reads strict (now (table .entry)) (now (offsets .entry)) (now (addends .entry)) r (now (offsets .exit)) (now (addends .exit)) ⌝ }
 {
-    apa1::read(table, offsets, addends)
+    apa1::read(strict, table, offsets, addends)
 }
 
 #[no_mangle]
@@ -88,15 +93,16 @@ pub extern "C" fn reloc_apa1_write(offsets: &[u64], addends: &[i64], table: &mut
 #[no_mangle]
 pub extern "C" fn reloc_relleb_read(
     class: u32,
+    strict: bool,
     table: &[u8],
     offsets: &mut [u64],
     types: &mut [u32],
     symbols: &mut [u32],
     addends: &mut [i64],
 ) -> Answer
-    ensures { λ r. ⌜ RellebReads class (now (table .entry)) (now (offsets .entry)) (now (types .entry)) (now (symbols .entry)) (now (addends .entry)) r (now (offsets .exit)) (now (types .exit)) (now (symbols .exit)) (now (addends .exit)) ⌝ }
+    ensures { λ r. ⌜ RellebReads class strict (now (table .entry)) (now (offsets .entry)) (now (types .entry)) (now (symbols .entry)) (now (addends .entry)) r (now (offsets .exit)) (now (types .exit)) (now (symbols .exit)) (now (addends .exit)) ⌝ }
 {
-    relleb::read(class, table, offsets, types, symbols, addends)
+    relleb::read(class, strict, table, offsets, types, symbols, addends)
 }
 
 #[no_mangle]

@@ -74,11 +74,20 @@ fn read(code: u8, settings: Settings, table: &[u8], lengths: Lengths) {
     let addends: &mut [i64] = &mut addend_space[..n_addends];
     input::u32le();
     let order = settings.order;
+    let strict = settings.strict;
     let a = match code {
         RELR_READ => relr::read(settings.class, order, table, offsets),
-        APR1_READ => apr1::read(table, offsets),
-        APA1_READ => apa1::read(table, offsets, addends),
-        _ => relleb::read(settings.class, table, offsets, types, symbols, addends),
+        APR1_READ => apr1::read(strict, table, offsets),
+        APA1_READ => apa1::read(strict, table, offsets, addends),
+        _ => relleb::read(
+            settings.class,
+            strict,
+            table,
+            offsets,
+            types,
+            symbols,
+            addends,
+        ),
     };
     let h = output::column64(output::EMPTY, offsets);
     let h = output::column32(h, types);

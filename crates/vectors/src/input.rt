@@ -3,14 +3,16 @@ ghost use Prim.Native.Nat.{_≤_, _<_};
 use libc::STDIN_FILENO;
 use word::ByteOrder;
 
-// The byte order that is high byte first.
+// The byte order that is high byte first, and the setting that is strict.
 const BIG: u8 = 1;
+
+const STRICT: u8 = 1;
 
 // What a case sets; `reference/FORMAT.md` has the values. What its call does not take is 0.
 pub struct Settings {
     pub class: u32,
     pub order: ByteOrder,
-    pub strict: u8,
+    pub strict: bool,
     pub base: u64,
     pub start: u64,
 }
@@ -55,7 +57,7 @@ pub fn u64le() -> u64 {
 pub fn case_settings() -> Settings {
     let class = u32le();
     let order = ByteOrder::of(byte() == BIG);
-    let strict = byte();
+    let strict = byte() == STRICT;
     let base = u64le();
     let start = u64le();
     Settings {
