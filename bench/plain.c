@@ -1,8 +1,8 @@
 /*
  * The calls as plain loops: one pass that trusts its input, without any check
- * of lengths, widths, order, space or room. A read answers records, a write
- * bytes, an apply additions. The words of memory must be little-endian; those of
- * RELR tables and images have the high byte first if `big`.
+ * of lengths, widths, padding, order, space or room. A read answers records, a
+ * write bytes, an apply additions. The words of memory must be little-endian; those
+ * of RELR tables and images have the high byte first if `big`.
  */
 #include <stdbool.h>
 #include <stddef.h>

@@ -3,10 +3,10 @@
  *
  * Calls over four kinds of table:
  *
- *   RELR    offsets of words, as addresses and bitmaps   class 4 or 8, byte order
- *   APR1    32-bit offsets, as runs of equal gaps        no class
- *   APA1    64-bit offsets with addends                  no class
- *   RELLEB  offset, type, symbol index and addend        class 4 or 8
+ *   RELR    offsets of words, as addresses and bitmaps  class 4 or 8; byte order
+ *   APR1    32-bit offsets, as runs of equal gaps       no class; lax or strict
+ *   APA1    64-bit offsets with addends                 no class; lax or strict
+ *   RELLEB  offset, type, symbol index and addend       class 4 or 8; lax or strict
  *
  * The class (argument class_, for C++'s sake) is the size of a word in bytes; W,
  * the word's width, is 32 or 64 bits. The byte order (argument big) is that of
@@ -15,13 +15,20 @@
  * refusal speaks of it. The other kinds hold no words, only LEB128 numbers, and
  * take no byte order.
  *
+ * The setting (argument strict) is that of a call that reads LEB128 numbers: false
+ * is lax, where a number may be padded; true is strict, where a number longer than
+ * its shortest form is refused, and a RELLEB addend difference of zero too. Both
+ * are accepted, so no refusal speaks of the setting itself. A table that is
+ * accepted strictly is read as the same list lax; every table of these kinds that
+ * the library writes is accepted strictly.
+ *
  * A buffer is passed as a pointer and a count of elements: bytes for a table or
  * an image, entries for a column. A buffer reached through a pointer to const is
  * only read. The entries of a record stand at one index of each column; columns
  * of one call have one length.
  *
- * What every call promises, whatever the class, the byte order, the base, the
- * start and the contents and lengths of its buffers
+ * What every call promises, whatever the class, the byte order, the setting, the
+ * base, the start and the contents and lengths of its buffers
  *
  *   It returns, with an answer (see struct reloc_answer). On success it changes
  *   what its comment says and leaves the rest of every buffer as it was. On a
@@ -99,8 +106,8 @@ extern "C" {
  *
  *     if (reloc_version() != RELOC_VERSION) the header is not the library's
  */
-#define RELOC_VERSION 6001u
-#define RELOC_VERSION_TEXT "0.6.1"
+#define RELOC_VERSION 7000u
+#define RELOC_VERSION_TEXT "0.7.0"
 
 /* The version of the library, as RELOC_VERSION. */
 RELOC_NODISCARD
@@ -132,7 +139,8 @@ struct reloc_answer {
 /*
  * The numbers of an answer: success, and the refusals. A place other than 0 is a
  * byte of the table where a table is read or applied (but see
- * RELOC_REFUSED_OUTSIDE), and an index in the list where a list is written.
+ * RELOC_REFUSED_OUTSIDE), and an index in the list where a list is written. No call
+ * answers 16 or 17.
  */
 enum reloc_number {
     RELOC_OK = 0,                 /* success; place 0 */
@@ -165,7 +173,11 @@ enum reloc_number {
     RELOC_REFUSED_EMPTY = 13,     /* APR1 write: an empty list; place 0 */
     RELOC_REFUSED_ADDEND = 14,    /* RELLEB class 4 write: an addend outside signed
                                      32 bits; place is its index */
-    RELOC_REFUSED_BASE = 15       /* apply, class 4: a base above 2^32 - 1; place 0 */
+    RELOC_REFUSED_BASE = 15,      /* apply, class 4: a base above 2^32 - 1; place 0 */
+    RELOC_REFUSED_PADDED = 18,    /* strict read: a number longer than its shortest
+                                     form; place is its first byte */
+    RELOC_REFUSED_ZERO = 19       /* strict RELLEB read: an addend difference of
+                                     zero; place is its first byte */
 };
 
 /* The name of an answer's number, for a log. */
@@ -188,6 +200,8 @@ static inline const char *reloc_name(uint32_t number)
     case RELOC_REFUSED_EMPTY: return "RELOC_REFUSED_EMPTY";
     case RELOC_REFUSED_ADDEND: return "RELOC_REFUSED_ADDEND";
     case RELOC_REFUSED_BASE: return "RELOC_REFUSED_BASE";
+    case RELOC_REFUSED_PADDED: return "RELOC_REFUSED_PADDED";
+    case RELOC_REFUSED_ZERO: return "RELOC_REFUSED_ZERO";
     default: return "unknown";
     }
 }
@@ -261,13 +275,18 @@ struct reloc_answer reloc_relr_apply(uint32_t class_, bool big, const uint8_t *t
  *
  * Changes the first count entries of offsets. count: offsets read.
  *
- * Refuses: LIMIT, IDENTIFIER, { MISSING, WIDTH, SPACE }, TRAILING, ROOM.
- * SPACE: an offset is above 2^32 - 4; place is the first byte of A or, for an
- * offset of a pair, of that pair's C. ROOM's count may be far above any limit.
+ * Strict reading is about each number's own bytes: two tables that it accepts can
+ * still give one list, since a run of equal gaps may be split in two pairs, and a
+ * pair with C = 0 gives no offset.
+ *
+ * Refuses: LIMIT, IDENTIFIER, { MISSING, WIDTH, PADDED, in this order for one
+ * number; SPACE, once A, or a pair's C and D, are read }, TRAILING, ROOM. PADDED:
+ * strict only. SPACE: an offset is above 2^32 - 4; place is the first byte of A or,
+ * for an offset of a pair, of that pair's C. ROOM's count may be far above any limit.
  */
 RELOC_NODISCARD
-struct reloc_answer reloc_apr1_read(const uint8_t *table, size_t table_len, uint64_t *offsets,
-                                    size_t offsets_len);
+struct reloc_answer reloc_apr1_read(bool strict, const uint8_t *table, size_t table_len,
+                                    uint64_t *offsets, size_t offsets_len);
 
 /*
  * Writes a strictly increasing list of at least one offset as an APR1 table, one
@@ -288,11 +307,14 @@ struct reloc_answer reloc_apr1_write(const uint64_t *offsets, size_t offsets_len
  *
  * Changes the first count entries of offsets and addends. count: records read.
  *
- * Refuses: COLUMNS, LIMIT, IDENTIFIER, { MISSING, WIDTH }, TRAILING, ROOM.
+ * Refuses: COLUMNS, LIMIT, IDENTIFIER, { MISSING, WIDTH, PADDED, in this order for
+ * one number }, TRAILING, ROOM. WIDTH: also a negative count, padded or not.
+ * PADDED: strict only.
  */
 RELOC_NODISCARD
-struct reloc_answer reloc_apa1_read(const uint8_t *table, size_t table_len, uint64_t *offsets,
-                                    size_t offsets_len, int64_t *addends, size_t addends_len);
+struct reloc_answer reloc_apa1_read(bool strict, const uint8_t *table, size_t table_len,
+                                    uint64_t *offsets, size_t offsets_len, int64_t *addends,
+                                    size_t addends_len);
 
 /*
  * Writes offsets with addends, in any order, as an APA1 table.
@@ -312,13 +334,15 @@ struct reloc_answer reloc_apa1_write(const uint64_t *offsets, size_t offsets_len
  *
  * Changes the first count entries of the four columns. count: records read.
  *
- * Refuses: CLASS, COLUMNS, LIMIT, { MISSING, WIDTH }, TRAILING, ROOM.
+ * Refuses: CLASS, COLUMNS, LIMIT, { MISSING, WIDTH, PADDED, ZERO, in this order for
+ * one number }, TRAILING, ROOM. PADDED, ZERO: strict only. ZERO: an addend
+ * difference of zero in its shortest form; a padded one is PADDED.
  */
 RELOC_NODISCARD
-struct reloc_answer reloc_relleb_read(uint32_t class_, const uint8_t *table, size_t table_len,
-                                      uint64_t *offsets, size_t offsets_len, uint32_t *types,
-                                      size_t types_len, uint32_t *symbols, size_t symbols_len,
-                                      int64_t *addends, size_t addends_len);
+struct reloc_answer reloc_relleb_read(uint32_t class_, bool strict, const uint8_t *table,
+                                      size_t table_len, uint64_t *offsets, size_t offsets_len,
+                                      uint32_t *types, size_t types_len, uint32_t *symbols,
+                                      size_t symbols_len, int64_t *addends, size_t addends_len);
 
 /*
  * Writes records, in any order, as a RELLEB table.

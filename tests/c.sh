@@ -1,7 +1,7 @@
 #!/usr/bin/env bash
 # The header and the C programs against the libreloc.a in $RELOC_LIB_DIR: both languages take them without a warning, an answer that is
-# not looked at gets one, the header's version, numbers, byte orders and limits are the library's, and the examples print their
-# .txt files.
+# not looked at gets one, the header's version, numbers, byte orders, settings and limits are the library's, and the examples
+# print their .txt files.
 set -eu
 
 lib=${RELOC_LIB_DIR:?the folder of libreloc.a}/libreloc.a
@@ -36,7 +36,7 @@ run() {
 }
 
 run "$root/tests/header.c"
-echo "header: version, numbers, byte orders and limits are the library's"
+echo "header: version, numbers, byte orders, settings and limits are the library's"
 for name in station loader; do
     run "$root/examples/$name.c"
     diff "$root/examples/$name.txt" "$out/printed"

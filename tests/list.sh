@@ -42,6 +42,8 @@ printf 'apa1\nAPA1\100' | refused "a negative count" 5 4
 printf 'apr1\nAPR1\200\200\200\200\020' | refused "a number over 2^32 - 1" 5 8
 { printf 'relleb64\n'; printf '\200%.0s' 1 2 3 4 5 6 7 8 9 10 11; } | refused "a number of eleven bytes" 5 9
 printf 'relleb32\n\0\0' | refused "a byte after the last record" 8 1
+printf 'apr1\nAPR1\200\0\0' | expect "a padded number" offsets 1
+printf 'relleb64\n\1\0\0\177\0' | expect "an addend difference of zero" printf 'no\toffset\ttype\tsymbol\taddend\n0\t0\t0\t0\t0\n'
 { printf re; sleep 0.1; echo lr64; sleep 0.1; zeros 3; sleep 0.1; zeros 5; } | expect "short reads" offsets 1
 echo "listing program: ok"
 

@@ -8,13 +8,22 @@ use reloc::Refusal;
 const IDENTIFIER: &[u8] = b"APA1";
 
 /// Reads the records of a table into two columns.
-pub fn apa1_read(table: &[u8], offsets: &mut [u64], addends: &mut [i64]) -> Answer {
+pub fn apa1_read(strict: bool, table: &[u8], offsets: &mut [u64], addends: &mut [i64]) -> Answer {
+    if strict {
+        read::<true>(table, offsets, addends)
+    } else {
+        read::<false>(table, offsets, addends)
+    }
+}
+
+/// Reading, for a setting.
+fn read<const STRICT: bool>(table: &[u8], offsets: &mut [u64], addends: &mut [i64]) -> Answer {
     same_length(&[offsets.len(), addends.len()])?;
     readable(table)?;
-    let count = decode(table, |_, _| ())?;
+    let count = decode::<STRICT>(table, |_, _| ())?;
     enough(offsets.len(), count)?;
     let mut room = offsets.iter_mut().zip(addends);
-    decode(table, |offset, addend| {
+    decode::<STRICT>(table, |offset, addend| {
         if let Some(entries) = room.next() {
             (*entries.0, *entries.1) = (offset, addend);
         }
@@ -23,11 +32,13 @@ pub fn apa1_read(table: &[u8], offsets: &mut [u64], addends: &mut [i64]) -> Answ
 }
 
 /// Gives the records of a table, and says how many there are.
-fn decode(table: &[u8], mut put: impl FnMut(u64, i64)) -> Result<u64, Refusal> {
-    let mut reader = Reader::after(table, IDENTIFIER)?;
-    let Ok(count) = u64::try_from(reader.signed(64)?) else {
+fn decode<const STRICT: bool>(table: &[u8], mut put: impl FnMut(u64, i64)) -> Result<u64, Refusal> {
+    // A negative count is refused for that, also a padded one.
+    let Ok(count) = u64::try_from(Reader::<false>::after(table, IDENTIFIER)?.signed(64)?) else {
         return refuse(WIDTH, IDENTIFIER.len());
     };
+    let mut reader = Reader::<STRICT>::after(table, IDENTIFIER)?;
+    reader.signed(64)?;
     let (mut offset, mut addend) = (0u64, 0i64);
     for _ in 0..count {
         offset = offset.wrapping_add(reader.signed(64)? as u64);

@@ -12,13 +12,18 @@ const IDENTIFIER: &[u8] = b"APR1";
 const LAST: u64 = 0xFFFF_FFFC;
 
 /// Reads the offsets of a table into a column.
-pub fn apr1_read(table: &[u8], mut offsets: &mut [u64]) -> Answer {
+pub fn apr1_read(strict: bool, table: &[u8], offsets: &mut [u64]) -> Answer {
+    if strict { read::<true>(table, offsets) } else { read::<false>(table, offsets) }
+}
+
+/// Reading, for a setting.
+fn read<const STRICT: bool>(table: &[u8], mut offsets: &mut [u64]) -> Answer {
     readable(table)?;
     let mut count = 0;
-    decode(table, |times, _| count += times)?;
+    decode::<STRICT>(table, |times, _| count += times)?;
     enough(offsets.len(), count)?;
     let mut offset = 0;
-    decode(table, |times, gap| {
+    decode::<STRICT>(table, |times, gap| {
         let (run, rest) = take(&mut offsets).split_at_mut(times as usize);
         for entry in run {
             offset += gap;
@@ -30,8 +35,8 @@ pub fn apr1_read(table: &[u8], mut offsets: &mut [u64]) -> Answer {
 }
 
 /// Gives the pairs of a table; the first offset A comes first, as one gap from 0.
-fn decode(table: &[u8], mut put: impl FnMut(u64, u64)) -> Result<(), Refusal> {
-    let mut reader = Reader::after(table, IDENTIFIER)?;
+fn decode<const STRICT: bool>(table: &[u8], mut put: impl FnMut(u64, u64)) -> Result<(), Refusal> {
+    let mut reader = Reader::<STRICT>::after(table, IDENTIFIER)?;
     let pairs = reader.unsigned(32)?;
     let place = reader.at;
     let mut offset = reader.unsigned(32)?;

@@ -1,15 +1,15 @@
 //! LEB128 numbers: read from a table, counted, and written in the shortest form.
 
-use crate::refusal::{IDENTIFIER, MISSING, TRAILING, WIDTH, refuse};
+use crate::refusal::{IDENTIFIER, MISSING, PADDED, TRAILING, WIDTH, refuse};
 use reloc::Refusal;
 
-/// A table and the place of its next byte.
-pub struct Reader<'a> {
+/// A table and the place of its next byte; if strict, each number is in its shortest form.
+pub struct Reader<'a, const STRICT: bool> {
     table: &'a [u8],
     pub at: usize,
 }
 
-impl<'a> Reader<'a> {
+impl<'a, const STRICT: bool> Reader<'a, STRICT> {
     /// The table from its first byte on.
     pub fn new(table: &'a [u8]) -> Self {
         Reader { table, at: 0 }
@@ -31,7 +31,13 @@ impl<'a> Reader<'a> {
     /// An unsigned number of so many bits.
     #[inline]
     pub fn unsigned(&mut self, bits: u32) -> Result<u64, Refusal> {
-        Ok(self.digits(bits, |byte, room| byte >> room == 0)?.0)
+        let first = self.at;
+        let (value, used) = self.digits(bits, |byte, room| byte >> room == 0)?;
+        // The last byte is 0, and not the only one.
+        if STRICT && used > 7 && value >> (used - 7) == 0 {
+            return refuse(PADDED, first);
+        }
+        Ok(value)
     }
 
     /// A signed number of so many bits.
@@ -41,9 +47,15 @@ impl<'a> Reader<'a> {
             let digit = (byte << 1) as i8 >> 1;
             byte < 0x80 && matches!(digit >> (room - 1), 0 | -1)
         };
+        let first = self.at;
         let (value, used) = self.digits(bits, fits)?;
         let spare = u64::BITS.saturating_sub(used);
-        Ok((value << spare) as i64 >> spare)
+        let value = (value << spare) as i64 >> spare;
+        // The bits of the last byte, which is not the only one, and the bit before are all the sign.
+        if STRICT && used > 7 && matches!(value >> (used - 8), 0 | -1) {
+            return refuse(PADDED, first);
+        }
+        Ok(value)
     }
 
     /// The digits of a number and how many bits they have; `fits` is asked of the last allowed

@@ -18,4 +18,5 @@ mod refusal;
 mod relleb;
 mod relr;
 pub mod rows;
+pub mod setting;
 mod word;

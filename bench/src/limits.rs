@@ -1,4 +1,5 @@
-//! Each call on tables and lists up to its limit.
+//! Each call on tables and lists up to its limit. The numbers of a table that is read are padded, so
+//! it is read lax.
 
 use crate::bits::BitByBit;
 use crate::programs::{Program, library, rust};
@@ -53,11 +54,11 @@ pub fn seconds(row: &Row, size: usize) -> [f64; 2] {
 }
 
 fn table(call: &str, class: u32, case: impl Fn(usize) -> Case + 'static) -> Row {
-    Row { name: named(call, class), sizes: &[INPUT_LIMIT / 4, INPUT_LIMIT], case: Box::new(case) }
+    Row::new(named(call, class), &[INPUT_LIMIT / 4, INPUT_LIMIT], case)
 }
 
 fn list(call: &str, class: u32, case: impl Fn(usize) -> Case + 'static) -> Row {
-    Row { name: named(call, class), sizes: &[LIST_LIMIT / 4, LIST_LIMIT], case: Box::new(case) }
+    Row::new(named(call, class), &[LIST_LIMIT / 4, LIST_LIMIT], case)
 }
 
 fn named(call: &str, class: u32) -> String {

@@ -4,6 +4,7 @@ use bench::limits;
 use bench::measure::{Figures, measured};
 use bench::programs::WAYS;
 use bench::rows::{self, SIZES};
+use bench::setting::Setting;
 
 /// The size of the first table; a row of one size has that.
 const FIRST: usize = 1_000_000;
@@ -25,8 +26,10 @@ fn main() {
     print_growth(&results);
     println!();
     print_limits(&part);
-    println!();
-    print_orders(&results);
+    for setting in Setting::ALL {
+        println!();
+        print_settings(&results, setting);
+    }
 }
 
 /// What was measured at a size, if the row has it.
@@ -84,17 +87,19 @@ fn print_limits(part: &str) {
     }
 }
 
-/// The fourth table: the library's time on big-endian words over its time on little-endian ones.
-fn print_orders(results: &[Result]) {
-    println!("Big-endian over little-endian: the library's best time in ns per record on words of");
-    println!("either order, by turns, and the one over the other.\n");
-    println!("| row | records | little-endian | big-endian | ratio, best | median |");
+/// A table for each setting: the library's time with it on over its time with it off.
+fn print_settings(results: &[Result], setting: Setting) {
+    let [off, on] = setting.names();
+    println!("The library's best time in ns per record, {off} and {on} by turns on the same");
+    println!("buffers, and the second over the first.\n");
+    println!("| row | records | {off} | {on} | ratio, best | median |");
     println!("|---|--:|--:|--:|--:|--:|");
     for (name, sizes) in results {
         for figures in sizes {
-            let Some([little, big]) = figures.orders.as_deref() else { continue };
-            print!("| {name} | {} | {:.2} | {:.2} ", figures.records, little.best, big.best);
-            println!("| {:.2} | {:.2} |", big.best / little.best, big.median / little.median);
+            let times = figures.settings.filter(|(which, _)| *which == setting);
+            let Some((_, [off, on])) = times else { continue };
+            print!("| {name} | {} | {:.2} | {:.2} ", figures.records, off.best, on.best);
+            println!("| {:.2} | {:.2} |", on.best / off.best, on.median / off.median);
         }
     }
 }

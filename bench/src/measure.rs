@@ -2,6 +2,7 @@
 
 use crate::programs::{Program, library, programs, reference};
 use crate::rows::Row;
+use crate::setting::Setting;
 use reference::corpus::case::Case;
 use std::hint::black_box;
 use std::time::{Duration, Instant};
@@ -26,23 +27,23 @@ pub struct Times {
     pub median: f64,
 }
 
-/// What was measured of a row of so many records: its programs, the library first; and where words
-/// are big-endian, the library on little-endian and on big-endian ones.
+/// What was measured of a row of so many records: its programs, the library first; and where a
+/// setting is on, the library with it off and on.
 pub struct Figures {
     pub records: usize,
     pub programs: Vec<Times>,
-    pub orders: Option<Vec<Times>>,
+    pub settings: Option<(Setting, [Times; 2])>,
 }
 
-/// The case of a row, after every program has been seen to do on it as the reference does; a
-/// big-endian one, also with its table turned.
+/// The case of a row, after every program has been seen to do on it as the reference does; where a
+/// setting is on, also with it off.
 pub fn checked(row: &Row, records: usize) -> Case {
     let mut case = (row.case)(records);
     check(&row.name, &case);
-    if case.big {
-        turn(&mut case);
+    if let Some(setting) = row.setting {
+        setting.turn(&mut case);
         check(&row.name, &case);
-        turn(&mut case);
+        setting.turn(&mut case);
     }
     case
 }
@@ -59,29 +60,26 @@ fn check(name: &str, case: &Case) {
     }
 }
 
-/// Turns the words of a case's table, in place, to the other byte order. The image stays as it is:
-/// any numbers will do.
-fn turn(case: &mut Case) {
-    case.big = !case.big;
-    case.input.chunks_exact_mut(case.class as usize).for_each(<[u8]>::reverse);
-}
-
-/// Measures a row: its programs by turns, then the byte orders by turns, all on the same buffers.
+/// Measures a row: its programs by turns, then the setting off and on by turns, all on the same
+/// buffers.
 pub fn measured(row: &Row, records: usize) -> Figures {
     let mut case = checked(row, records);
     let programs = programs(case.call);
     let calls = (RECORDS / records).max(1);
     let times =
         by_turns(programs.len(), calls * records, |which| timed(programs[which], calls, &mut case));
-    let orders = case.big.then(|| {
-        by_turns(2, calls * records, |which| {
-            if case.big != (which == 1) {
-                turn(&mut case);
+    let settings = row.setting.map(|setting| {
+        let mut on = 1;
+        let times = by_turns(2, calls * records, |which| {
+            if which != on {
+                setting.turn(&mut case);
+                on = which;
             }
             timed(library, calls, &mut case)
-        })
+        });
+        (setting, [times[0], times[1]])
     });
-    Figures { records, programs: times, orders }
+    Figures { records, programs: times, settings }
 }
 
 /// The times of so many, by turns: each goes through so many records once a round, in changing order.

@@ -48,11 +48,11 @@ macro_rules! call {
             RELR_APPLY => {
                 $module::relr_apply$(::<$bits>)?(class, order, i, $case.base, $case.start, b)
             }
-            APR1_READ => $module::apr1_read(i, o),
+            APR1_READ => $module::apr1_read($case.strict, i, o),
             APR1_WRITE => $module::apr1_write(o, b),
-            APA1_READ => $module::apa1_read(i, o, a),
+            APA1_READ => $module::apa1_read($case.strict, i, o, a),
             APA1_WRITE => $module::apa1_write(o, a, b),
-            RELLEB_READ => $module::relleb_read(class, i, o, t, s, a),
+            RELLEB_READ => $module::relleb_read(class, $case.strict, i, o, t, s, a),
             RELLEB_WRITE => $module::relleb_write(class, o, t, s, a, b),
             call => panic!("no call {call}"),
         }

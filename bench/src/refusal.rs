@@ -32,6 +32,10 @@ pub const EMPTY: u32 = 13;
 pub const ADDEND: u32 = 14;
 /// A base is outside its width.
 pub const BASE: u32 = 15;
+/// A number is longer than its shortest form.
+pub const PADDED: u32 = 18;
+/// An addend difference is zero.
+pub const ZERO: u32 = 19;
 
 /// The answer of a call: records read, bytes written or additions made, or the refusal.
 pub type Answer = Result<usize, Refusal>;

@@ -1,7 +1,9 @@
 //! RELLEB: read and written.
 
 use crate::leb::{Length, Reader, Sink, Writer};
-use crate::refusal::{ADDEND, Answer, SPACE, enough, readable, refuse, same_length, writable};
+use crate::refusal::{
+    ADDEND, Answer, SPACE, ZERO, enough, readable, refuse, same_length, writable,
+};
 use crate::word::{Word, by_class};
 use reloc::Refusal;
 
@@ -34,13 +36,19 @@ struct List<'a> {
 /// Reads the records of a table into four columns.
 pub fn relleb_read(
     class: u32,
+    strict: bool,
     table: &[u8],
     offsets: &mut [u64],
     types: &mut [u32],
     symbols: &mut [u32],
     addends: &mut [i64],
 ) -> Answer {
-    by_class!(class, Little, read(table, Room { offsets, types, symbols, addends }))
+    let room = Room { offsets, types, symbols, addends };
+    if strict {
+        by_class!(class, Little, read<true>(table, room))
+    } else {
+        by_class!(class, Little, read<false>(table, room))
+    }
 }
 
 /// Writes the records of four columns as a table.
@@ -55,15 +63,15 @@ pub fn relleb_write(
     by_class!(class, Little, write(List { offsets, types, symbols, addends }, table))
 }
 
-/// Reading, for a class.
-fn read<W: Word>(table: &[u8], room: Room) -> Answer {
+/// Reading, for a class and a setting.
+fn read<W: Word, const STRICT: bool>(table: &[u8], room: Room) -> Answer {
     let Room { offsets, types, symbols, addends } = room;
     same_length(&[offsets.len(), types.len(), symbols.len(), addends.len()])?;
     readable(table)?;
-    let count = decode::<W>(table, |_| ())?;
+    let count = decode::<W, STRICT>(table, |_| ())?;
     enough(offsets.len(), count)?;
     let mut entries = offsets.iter_mut().zip(types).zip(symbols).zip(addends);
-    decode::<W>(table, |record| {
+    decode::<W, STRICT>(table, |record| {
         if let Some((((offset, kind), symbol), addend)) = entries.next() {
             (*offset, *kind) = (record.offset, record.kind);
             (*symbol, *addend) = (record.symbol, record.addend);
@@ -73,12 +81,15 @@ fn read<W: Word>(table: &[u8], room: Room) -> Answer {
 }
 
 /// Gives the records of a table, and says how many there are.
-fn decode<W: Word>(table: &[u8], mut put: impl FnMut(Record)) -> Result<u64, Refusal> {
-    let mut reader = Reader::new(table);
+fn decode<W: Word, const STRICT: bool>(
+    table: &[u8],
+    mut put: impl FnMut(Record),
+) -> Result<u64, Refusal> {
+    let mut reader = Reader::<STRICT>::new(table);
     let count = reader.unsigned(64)?;
     let mut record = Record::default();
     for _ in 0..count {
-        record = decode_record::<W>(&mut reader, record)?;
+        record = decode_record::<W, STRICT>(&mut reader, record)?;
         put(record);
     }
     reader.end()?;
@@ -87,14 +98,22 @@ fn decode<W: Word>(table: &[u8], mut put: impl FnMut(Record)) -> Result<u64, Ref
 
 /// The next record, from the one before it.
 #[inline]
-fn decode_record<W: Word>(reader: &mut Reader, before: Record) -> Result<Record, Refusal> {
+fn decode_record<W: Word, const STRICT: bool>(
+    reader: &mut Reader<STRICT>,
+    before: Record,
+) -> Result<Record, Refusal> {
     let offset = W::wrap(before.offset.wrapping_add(reader.unsigned(W::BITS)?));
     let kind = before.kind.wrapping_add(reader.signed(32)? as u32);
     let field = reader.signed(33)?;
     if field >= 0 {
         return Ok(Record { offset, kind, symbol: field as u32, addend: before.addend });
     }
-    let addend = W::signed(before.addend.wrapping_add(reader.signed(W::BITS)?) as u64);
+    let place = reader.at;
+    let change = reader.signed(W::BITS)?;
+    if STRICT && change == 0 {
+        return refuse(ZERO, place);
+    }
+    let addend = W::signed(before.addend.wrapping_add(change) as u64);
     Ok(Record { offset, kind, symbol: (-1 - field) as u32, addend })
 }
 

@@ -1,12 +1,13 @@
 //! What is measured: a row is a call on tables or lists of one shape, of any number of records.
 
+use crate::setting::Setting;
 use reference::corpus::calls::{
     APA1_READ, APA1_WRITE, APR1_READ, APR1_WRITE, RELLEB_READ, RELLEB_WRITE, RELR_READ, RELR_WRITE,
 };
 use reference::corpus::case::{Case, FILL};
 use reference::corpus::rng::Rng;
 use reference::corpus::tables::relr_bytes;
-use reference::corpus::twin::twin;
+use std::rc::Rc;
 
 /// The seed of every list.
 const SEED: u64 = 1;
@@ -20,14 +21,41 @@ pub const START: u64 = 0x1000;
 /// The sizes of a row, if nothing else is said.
 pub const SIZES: [usize; 4] = [10_000, 100_000, 1_000_000, 4_000_000];
 
-/// The sizes of a big-endian row, if its little-endian one has more than one.
-const BIG_SIZES: [usize; 2] = [10_000, 1_000_000];
+/// The sizes of a row with a setting on, if the one without has more than one.
+const SET_SIZES: [usize; 2] = [10_000, 1_000_000];
 
-/// A row: its name, the numbers of records that it is measured with, and its case of so many.
+/// A row: its name, the numbers of records that it is measured with, the setting that is on, and its
+/// case of so many.
 pub struct Row {
     pub name: String,
     pub sizes: &'static [usize],
-    pub case: Box<dyn Fn(usize) -> Case>,
+    pub setting: Option<Setting>,
+    pub case: Rc<dyn Fn(usize) -> Case>,
+}
+
+impl Row {
+    /// A row with no setting on.
+    pub fn new(
+        name: String,
+        sizes: &'static [usize],
+        case: impl Fn(usize) -> Case + 'static,
+    ) -> Row {
+        Row { name, sizes, setting: None, case: Rc::new(case) }
+    }
+
+    /// The row with the setting on that its call takes.
+    fn set(&self) -> Option<Row> {
+        let setting = Setting::of((self.case)(1).call())?;
+        let name = format!("{}, {}", self.name, setting.names()[1]);
+        let sizes = if self.sizes.len() > 1 { &SET_SIZES } else { self.sizes };
+        let unset = self.case.clone();
+        let case = move |records| {
+            let mut case = unset(records);
+            setting.turn(&mut case);
+            case
+        };
+        Some(Row { setting: Some(setting), ..Row::new(name, sizes, case) })
+    }
 }
 
 /// What a RELR table is made of.
@@ -60,30 +88,39 @@ const SHAPES: [(&str, Shape, &[usize]); 6] = [
 /// The longest run of an APR1 list, by name.
 const RUNS: [(&str, u64); 2] = [("short runs", 4), ("long runs", 2_000)];
 
-/// All rows; behind each of RELR the big-endian one.
+/// All rows; behind each whose call takes a setting the one with it on.
 pub fn all() -> Vec<Row> {
-    let pairs = relr().into_iter().zip(relr().into_iter().map(big_endian));
-    let mut rows: Vec<Row> = pairs.flat_map(|(little, big)| [little, big]).collect();
+    let and_set = |row: Row| {
+        let set = row.set();
+        [row].into_iter().chain(set)
+    };
+    unset().into_iter().flat_map(and_set).collect()
+}
+
+/// The rows with no setting on.
+fn unset() -> Vec<Row> {
+    let mut rows = relr();
     for (name, longest) in RUNS {
         rows.extend(both("APR1", name, APR1_READ, move |records| apr1_list(longest, records)));
     }
     rows.extend(both("APA1", "records", APA1_READ, |records| record_list(APA1_WRITE, 0, records)));
+    rows.push(far_read("APA1", "long numbers", APA1_READ, APA1_WRITE, 0));
     for class in [4, 8] {
         let name = format!("records, class {class}");
         let list = move |records| record_list(RELLEB_WRITE, class, records);
         rows.extend(both("RELLEB", &name, RELLEB_READ, list));
     }
+    rows.push(far_read("RELLEB", "long numbers, class 8", RELLEB_READ, RELLEB_WRITE, 8));
     rows
 }
 
-/// The little-endian rows of RELR.
+/// The rows of RELR.
 fn relr() -> Vec<Row> {
     let shapes = SHAPES.iter().flat_map(|shape| [(shape, 4), (shape, 8)]);
     let mut rows = Vec::new();
     for (&(name, shape, sizes), class) in shapes.clone() {
         let name = format!("RELR apply, {name}, class {class}");
-        let case = Box::new(move |records| applied(shape, class, records));
-        rows.push(Row { name, sizes, case });
+        rows.push(Row::new(name, sizes, move |records| applied(shape, class, records)));
     }
     for (&(name, shape, sizes), class) in shapes {
         let name = format!("{name}, class {class}");
@@ -91,16 +128,6 @@ fn relr() -> Vec<Row> {
         rows.extend(both("RELR", &name, RELR_READ, list).map(|row| Row { sizes, ..row }));
     }
     rows
-}
-
-/// A row of RELR with the words of tables and images big-endian.
-fn big_endian(Row { name, sizes, case }: Row) -> Row {
-    let case = move |records| twin(&case(records)).expect("RELR has a byte order");
-    Row {
-        name: format!("{name}, big-endian"),
-        sizes: if sizes.len() > 1 { &BIG_SIZES } else { sizes },
-        case: Box::new(case),
-    }
 }
 
 /// The rows of writing a list and of reading the table written.
@@ -119,9 +146,15 @@ fn both(
         Case { bytes: vec![FILL; written(&list).len()], ..list }
     };
     [
-        Row { name: format!("{kind} read, {name}"), sizes: &SIZES, case: Box::new(reading) },
-        Row { name: format!("{kind} write, {name}"), sizes: &SIZES, case: Box::new(writing) },
+        Row::new(format!("{kind} read, {name}"), &SIZES, reading),
+        Row::new(format!("{kind} write, {name}"), &SIZES, writing),
     ]
+}
+
+/// The row of reading a table of long numbers.
+fn far_read(kind: &str, name: &str, read: u8, write: u8, class: u32) -> Row {
+    let [reading, _] = both(kind, name, read, move |records| far_list(write, class, records));
+    reading
 }
 
 /// The reference's table for a list.
@@ -232,4 +265,30 @@ fn record_list(call: u8, class: u32, records: usize) -> Case {
         }
     }
     case
+}
+
+/// A list of records for APA1 or RELLEB's class 8 that are far apart: the differences of offsets and
+/// of addends are numbers of 5 to 10 bytes, those of types and the symbol fields most often of 5.
+fn far_list(call: u8, class: u32, records: usize) -> Case {
+    let mut rng = Rng::new(SEED);
+    let mut case = Case::write(call, class, &[], 0);
+    let (mut offset, mut addend) = (0u64, 0i64);
+    for _ in 0..records {
+        offset = offset.wrapping_add(long_number(&mut rng));
+        let change = long_number(&mut rng) as i64;
+        addend = addend.wrapping_add(if rng.once_in(2) { change } else { !change });
+        case.offsets.push(offset);
+        case.addends.push(addend);
+        if call == RELLEB_WRITE {
+            case.types.push(rng.draw() as u32);
+            case.symbols.push(rng.draw() as u32);
+        }
+    }
+    case
+}
+
+/// A number of 29 to 64 bits: 5 to 10 bytes, also as a signed number.
+fn long_number(rng: &mut Rng) -> u64 {
+    let top = 1 << (28 + rng.below(36));
+    top | rng.below(top)
 }

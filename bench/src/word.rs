@@ -80,13 +80,13 @@ macro_rules! word {
 word!(u32, i32);
 word!(u64, i64);
 
-/// A call with the words of its class in a byte order, or refusal 1. RELLEB has no words in its
-/// tables, and either order will do.
+/// A call with the words of its class in a byte order, or refusal 1: in a way through bitmaps, or
+/// by a setting. RELLEB has no words in its tables, and either order will do.
 macro_rules! by_class {
-    ($class:expr, $order:ident, $call:ident$(<$bits:ty>)?($($argument:expr),*)) => {
+    ($class:expr, $order:ident, $call:ident$(<$way:tt>)?($($argument:expr),*)) => {
         match $class {
-            4 => $call::<$crate::word::$order<u32> $(, $bits)?>($($argument),*),
-            8 => $call::<$crate::word::$order<u64> $(, $bits)?>($($argument),*),
+            4 => $call::<$crate::word::$order<u32> $(, $way)?>($($argument),*),
+            8 => $call::<$crate::word::$order<u64> $(, $way)?>($($argument),*),
             _ => $crate::refusal::refuse($crate::refusal::CLASS, 0),
         }
     };

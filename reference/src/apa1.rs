@@ -4,12 +4,12 @@ use crate::leb::{self, Kind::Signed};
 use crate::{Answer, MOST_INPUT, MOST_LIST, ended, identified, put, within};
 
 /// Order: 11, 2, 3, then the first fault along the stream, then 8, 9.
-pub fn apa1_read(table: &[u8], offsets: &mut [u64], addends: &mut [i64]) -> Answer {
+pub fn apa1_read(strict: bool, table: &[u8], offsets: &mut [u64], addends: &mut [i64]) -> Answer {
     // "11: columns differ in length", place 0
     if offsets.len() != addends.len() {
         return Answer::refused(11, 0);
     }
-    match parsed(table) {
+    match parsed(strict, table) {
         Err(refusal) => refusal,
         Ok(list) if list.len() > offsets.len() => Answer::needs(list.len() as u64),
         Ok(list) => {
@@ -22,7 +22,7 @@ pub fn apa1_read(table: &[u8], offsets: &mut [u64], addends: &mut [i64]) -> Answ
     }
 }
 
-fn parsed(table: &[u8]) -> Result<Vec<(u64, i64)>, Answer> {
+fn parsed(strict: bool, table: &[u8]) -> Result<Vec<(u64, i64)>, Answer> {
     within(table.len(), MOST_INPUT)?;
     identified(table, b"APA1")?;
     // "The identifier, then a count and that many pairs (offset difference,
@@ -33,13 +33,16 @@ fn parsed(table: &[u8]) -> Result<Vec<(u64, i64)>, Answer> {
     if count < 0 {
         return Err(Answer::refused(5, 4));
     }
+    // "4 and 5 come before it for the same number", and so does this 5
+    leb::unpadded(strict, 4, next, Signed(64), count)?;
+    let read = |place| leb::read_by(strict, table, place, Signed(64));
     // "Both sums start at 0 and wrap at 64 bits."
     let mut offset = 0u64;
     let mut addend = 0i64;
     let mut list = Vec::new();
     for _ in 0..count {
-        let (offset_step, place) = leb::read(table, next, Signed(64))?;
-        let (addend_step, after) = leb::read(table, place, Signed(64))?;
+        let (offset_step, place) = read(next)?;
+        let (addend_step, after) = read(place)?;
         next = after;
         offset = offset.wrapping_add(offset_step as u64);
         addend = addend.wrapping_add(addend_step as i64);

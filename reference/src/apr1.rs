@@ -13,8 +13,8 @@ struct Packed {
 }
 
 /// Order: 2, 3, then the first fault along the stream, then 8, 9.
-pub fn apr1_read(table: &[u8], offsets: &mut [u64]) -> Answer {
-    let packed = match parsed(table) {
+pub fn apr1_read(strict: bool, table: &[u8], offsets: &mut [u64]) -> Answer {
+    let packed = match parsed(strict, table) {
         Ok(packed) => packed,
         Err(refusal) => return refusal,
     };
@@ -31,12 +31,13 @@ pub fn apr1_read(table: &[u8], offsets: &mut [u64]) -> Answer {
     Answer::done(list.len())
 }
 
-fn parsed(table: &[u8]) -> Result<Packed, Answer> {
+fn parsed(strict: bool, table: &[u8]) -> Result<Packed, Answer> {
     within(table.len(), MOST_INPUT)?;
     identified(table, b"APR1")?;
     // "The identifier, then N, A, then N pairs C, D, all unsigned width 32."
-    let (number, place_a) = leb::read(table, 4, Unsigned(32))?;
-    let (first, mut next) = leb::read(table, place_a, Unsigned(32))?;
+    let read = |place| leb::read_by(strict, table, place, Unsigned(32));
+    let (number, place_a) = read(4)?;
+    let (first, mut next) = read(place_a)?;
     let first = first as u128;
     // "A is tested once it is read"; the place of 7 is the byte of A
     if first > LARGEST {
@@ -46,12 +47,12 @@ fn parsed(table: &[u8]) -> Result<Packed, Answer> {
     let mut pairs = Vec::new();
     for _ in 0..number {
         let place_c = next;
-        let (times, place_d) = leb::read(table, place_c, Unsigned(32))?;
-        let (gap, after) = leb::read(table, place_d, Unsigned(32))?;
+        let (times, place_d) = read(place_c)?;
+        let (gap, after) = read(place_d)?;
         next = after;
-        // "a pair once C and D are both read, and one with C = 0 gives none
-        // and isn't tested"; the last offset of a pair is its largest; the
-        // place of 7 is the byte of C
+        // "a pair once C and D are both read", so behind 18 of either, "and one
+        // with C = 0 gives none and isn't tested"; the last offset of a pair is
+        // its largest; the place of 7 is the byte of C
         offset += times as u128 * gap as u128;
         if times != 0 && offset > LARGEST {
             return Err(Answer::refused(7, place_c));

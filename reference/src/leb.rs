@@ -44,7 +44,7 @@ pub fn last_byte_allowed(kind: Kind, byte: u8) -> bool {
 }
 
 /// "The number reader answers either a value with the next place or a
-/// refusal."
+/// refusal." This is lax reading: "Padding inside that length is accepted."
 pub fn read(table: &[u8], start: usize, kind: Kind) -> Result<(i128, usize), Answer> {
     let mut value: i128 = 0;
     for k in 0..kind.most_bytes() {
@@ -69,6 +69,46 @@ pub fn read(table: &[u8], start: usize, kind: Kind) -> Result<(i128, usize), Ans
         }
     }
     unreachable!("the last allowed byte has its top bit clear")
+}
+
+/// A number by the strict setting, on or off.
+pub fn read_by(
+    strict: bool,
+    table: &[u8],
+    start: usize,
+    kind: Kind,
+) -> Result<(i128, usize), Answer> {
+    // "4 and 5 come before it for the same number"
+    let (value, next) = read(table, start, kind)?;
+    unpadded(strict, start, next, kind, value)?;
+    Ok((value, next))
+}
+
+/// Refusal 18, "a number longer than its shortest form, at its first byte", by
+/// document 02, of a number that was read from `start` to `next`. "Lax reading
+/// answers as before."
+pub fn unpadded(
+    strict: bool,
+    start: usize,
+    next: usize,
+    kind: Kind,
+    value: i128,
+) -> Result<(), Answer> {
+    if strict && next - start > shortest(kind, value).len() {
+        return Err(Answer::refused(18, start));
+    }
+    Ok(())
+}
+
+/// The shortest form of a number.
+pub fn shortest(kind: Kind, value: i128) -> Vec<u8> {
+    let mut bytes = Vec::new();
+    if kind.signed() {
+        write_signed(value as i64, &mut bytes);
+    } else {
+        write_unsigned(value as u64, &mut bytes);
+    }
+    bytes
 }
 
 /// "Writers write the shortest form."

@@ -24,6 +24,13 @@ pub const MOST_INPUT: usize = 134_217_728;
 /// "and lists to 4,194,304 records", by document 02.
 pub const MOST_LIST: usize = 4_194_304;
 
+/// The strict setting, on: "Refuse padded numbers." "Each LEB128 reader gains a
+/// strict setting", by document 02.
+pub const STRICT: bool = true;
+
+/// The strict setting, off: "Lax reading answers as before."
+pub const LAX: bool = false;
+
 /// "Each call returns number, place and count."
 #[derive(Clone, Copy, PartialEq, Eq, Debug)]
 pub struct Answer {

@@ -1,6 +1,6 @@
 //! The listing program, as a function from its input to its output.
 
-use crate::{Answer, ByteOrder, apa1_read, apr1_read, relleb_read, relr_read};
+use crate::{Answer, ByteOrder, LAX, apa1_read, apr1_read, relleb_read, relr_read};
 
 /// "The program holds 16,384 table bytes (more is 2) and 1,024 records (more
 /// is 9)."
@@ -56,10 +56,11 @@ fn rows(kind: &[u8], table: &[u8]) -> Result<Vec<String>, Answer> {
         // "the program stays little-endian", by document 02
         b"relr32" => relr_read(4, ByteOrder::Little, table, &mut o),
         b"relr64" => relr_read(8, ByteOrder::Little, table, &mut o),
-        b"apr1" => apr1_read(table, &mut o),
-        b"apa1" => apa1_read(table, &mut o, &mut a),
-        b"relleb32" => relleb_read(4, table, &mut o, &mut t, &mut s, &mut a),
-        _ => relleb_read(8, table, &mut o, &mut t, &mut s, &mut a),
+        // It reads lax: "Lax reading answers as before."
+        b"apr1" => apr1_read(LAX, table, &mut o),
+        b"apa1" => apa1_read(LAX, table, &mut o, &mut a),
+        b"relleb32" => relleb_read(4, LAX, table, &mut o, &mut t, &mut s, &mut a),
+        _ => relleb_read(8, LAX, table, &mut o, &mut t, &mut s, &mut a),
     };
     if answer.number != 0 {
         return Err(answer);

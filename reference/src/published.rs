@@ -6,7 +6,7 @@ use crate::ByteOrder::{self, Big, Little};
 use crate::corpus::hand_relr::{OUT4, OUT8, TOP4, TOP8};
 use crate::corpus::tables::{join, number, relr_bytes, turned};
 use crate::leb::{self, Kind, Kind::Signed, Kind::Unsigned};
-use crate::{Answer, apa1_read, relr_apply, relr_read, relr_write};
+use crate::{Answer, LAX, apa1_read, relr_apply, relr_read, relr_write};
 
 const U64: Kind = Unsigned(64);
 const I64: Kind = Signed(64);
@@ -242,7 +242,7 @@ fn counts() -> String {
 
 /// The answer of reading an APA1 table into columns of 64.
 fn count(table: &[u8]) -> String {
-    let Answer { number, place, count } = apa1_read(table, &mut [0; 64], &mut [0; 64]);
+    let Answer { number, place, count } = apa1_read(LAX, table, &mut [0; 64], &mut [0; 64]);
     format!("apa1{} answers {number} at {place} count {count}\n", hex(table))
 }
 

@@ -15,6 +15,7 @@ struct Record {
 /// Order: 1, 11, 2, then the first fault along the stream, then 8, 9.
 pub fn relleb_read(
     class: u32,
+    strict: bool,
     table: &[u8],
     offsets: &mut [u64],
     types: &mut [u32],
@@ -28,7 +29,7 @@ pub fn relleb_read(
     if !same_length([offsets.len(), types.len(), symbols.len(), addends.len()]) {
         return Answer::refused(11, 0);
     }
-    match parsed(&class, table) {
+    match parsed(&class, strict, table) {
         Err(refusal) => refusal,
         Ok(list) if list.len() > offsets.len() => Answer::needs(list.len() as u64),
         Ok(list) => {
@@ -48,14 +49,14 @@ fn same_length(lengths: [usize; 4]) -> bool {
     lengths.iter().all(|length| *length == lengths[0])
 }
 
-fn parsed(class: &Class, table: &[u8]) -> Result<Vec<Record>, Answer> {
+fn parsed(class: &Class, strict: bool, table: &[u8]) -> Result<Vec<Record>, Answer> {
     within(table.len(), MOST_INPUT)?;
     // "A count, unsigned width 64."
-    let (count, mut next) = leb::read(table, 0, Unsigned(64))?;
+    let (count, mut next) = leb::read_by(strict, table, 0, Unsigned(64))?;
     let mut before = Record::default();
     let mut list = Vec::new();
     for _ in 0..count {
-        let (record, after) = record_at(class, table, next, &before)?;
+        let (record, after) = record_at(class, strict, table, next, &before)?;
         next = after;
         before = record;
         list.push(record);
@@ -66,6 +67,7 @@ fn parsed(class: &Class, table: &[u8]) -> Result<Vec<Record>, Answer> {
 
 fn record_at(
     class: &Class,
+    strict: bool,
     table: &[u8],
     start: usize,
     before: &Record,
@@ -73,16 +75,22 @@ fn record_at(
     // "For each record: offset difference, unsigned width W; type difference,
     // signed width 32; symbol field, signed width 33; perhaps an addend
     // difference, signed width W."
-    let (offset_step, next) = leb::read(table, start, Unsigned(class.bits))?;
-    let (kind_step, next) = leb::read(table, next, Signed(32))?;
-    let (field, next) = leb::read(table, next, Signed(33))?;
+    let read = |place, kind| leb::read_by(strict, table, place, kind);
+    let (offset_step, next) = read(start, Unsigned(class.bits))?;
+    let (kind_step, next) = read(next, Signed(32))?;
+    let (field, next) = read(next, Signed(33))?;
     // "Symbol field f ≥ 0 means symbol f and the same addend. f < 0 means
     // symbol −1−f, and an addend difference follows."
     let (symbol, addend_step, next) = if field >= 0 {
         (field, 0, next)
     } else {
-        let (addend_step, next) = leb::read(table, next, Signed(class.bits))?;
-        (-1 - field, addend_step, next)
+        let (addend_step, after) = read(next, Signed(class.bits))?;
+        // Refusal 19, "a RELLEB addend difference of zero, at its first byte,
+        // after 18", by document 02; lax, "A zero difference is accepted".
+        if strict && addend_step == 0 {
+            return Err(Answer::refused(19, next));
+        }
+        (-1 - field, addend_step, after)
     };
     // "Offset and addend sums wrap at W bits, type at 32; the addend is read
     // back as a signed number."

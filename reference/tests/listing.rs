@@ -75,6 +75,18 @@ fn places_count_from_the_table() {
     assert_eq!(run("relleb64", b"\0\0"), refused(8, 1));
 }
 
+/// The program reads lax.
+#[test]
+fn padded_numbers_are_listed() {
+    let apr1 = b"APR1\x81\x00\x84\x00\x81\x80\x00\x84\x00";
+    assert_eq!(run("apr1", apr1), format!("{HEAD}0\t4\t-\t-\t-\n1\t8\t-\t-\t-\n"));
+    let apa1 = b"APA1\x81\x00\xFF\x7F\x80\x00";
+    assert_eq!(run("apa1", apa1), format!("{HEAD}0\t18446744073709551615\t-\t-\t0\n"));
+    for kind in ["relleb32", "relleb64"] {
+        assert_eq!(run(kind, b"\x01\x87\x00\x00\x7F\x00"), format!("{HEAD}0\t7\t0\t0\t0\n"));
+    }
+}
+
 #[test]
 fn limits() {
     let zeros = vec![0; 16_385];

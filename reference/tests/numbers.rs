@@ -1,10 +1,10 @@
 //! LEB128 numbers.
 
-use reference::Answer;
 use reference::corpus::rng::Rng;
 use reference::corpus::tables::{number, padded};
 use reference::leb::{self, Kind, Kind::Signed, Kind::Unsigned};
 use reference::published::EXAMPLES;
+use reference::{Answer, LAX, STRICT};
 
 const KINDS: [Kind; 6] =
     [Unsigned(32), Signed(32), Unsigned(33), Signed(33), Unsigned(64), Signed(64)];
@@ -19,7 +19,9 @@ fn published_examples() {
     for (kind, value, bytes) in EXAMPLES {
         for same in KINDS.into_iter().filter(|other| other.signed() == kind.signed()) {
             assert_eq!(number(same, value), bytes);
-            assert_eq!(leb::read(bytes, 0, same), Ok((value, bytes.len())));
+            for strict in [LAX, STRICT] {
+                assert_eq!(leb::read_by(strict, bytes, 0, same), Ok((value, bytes.len())));
+            }
         }
     }
 }
@@ -103,6 +105,63 @@ fn padding_and_shortest() {
                 let mut cut = short[..short.len() - 1].to_vec();
                 *cut.last_mut().unwrap() &= 0x7F;
                 assert_ne!(value_of(kind, &cut), value);
+            }
+        }
+    }
+}
+
+/// Whether a number has a shorter form: it has the same value without its last
+/// byte.
+fn has_shorter(kind: Kind, bytes: &[u8]) -> bool {
+    bytes.len() > 1 && value_of(kind, bytes) == value_of(kind, &bytes[..bytes.len() - 1])
+}
+
+/// Strict reading answers as lax reading does, but that a number which has a shorter
+/// form is 18 at its first byte.
+fn strictly(kind: Kind, bytes: &[u8]) {
+    let table = [&[7, 0x87, 0x80], bytes].concat();
+    let lax = leb::read(&table, 3, kind);
+    assert_eq!(leb::read_by(LAX, &table, 3, kind), lax);
+    let want = match lax {
+        Ok((_, next)) if has_shorter(kind, &table[3..next]) => refused(18, 3),
+        lax => lax,
+    };
+    assert_eq!(leb::read_by(STRICT, &table, 3, kind), want, "{kind:?} {bytes:02x?}");
+}
+
+#[test]
+fn strict_numbers() {
+    let mut rng = Rng::new(3);
+    for kind in KINDS {
+        for [first, second] in (0..=u16::MAX).map(u16::to_le_bytes) {
+            strictly(kind, &[first, second]);
+        }
+        for _ in 0..5_000 {
+            let value = any(&mut rng, kind);
+            let mut bytes = padded(kind, value, rng.index(10));
+            strictly(kind, &bytes);
+            let at = rng.index(bytes.len());
+            bytes[at] ^= 1 << rng.below(8);
+            strictly(kind, &bytes);
+            bytes.truncate(at);
+            strictly(kind, &bytes);
+        }
+    }
+}
+
+/// The shortest form is accepted, and every longer one is 18.
+#[test]
+fn strict_lengths() {
+    let mut rng = Rng::new(4);
+    for _ in 0..1_000 {
+        for kind in KINDS {
+            let value = any(&mut rng, kind);
+            let short = number(kind, value).len();
+            for length in short..=kind.most_bytes() {
+                let bytes = padded(kind, value, length - short);
+                assert_eq!(bytes.len(), length);
+                let want = if length == short { Ok((value, length)) } else { refused(18, 0) };
+                assert_eq!(leb::read_by(STRICT, &bytes, 0, kind), want);
             }
         }
     }

@@ -5,8 +5,8 @@ use reference::ByteOrder::{Big, Little};
 use reference::corpus::case::Case;
 use reference::corpus::{all, hand};
 use reference::{
-    Answer, MOST_INPUT, MOST_LIST, apa1_read, apa1_write, apr1_read, apr1_write, relleb_read,
-    relleb_write, relr_apply, relr_read, relr_write,
+    Answer, LAX, MOST_INPUT, MOST_LIST, STRICT, apa1_read, apa1_write, apr1_read, apr1_write,
+    relleb_read, relleb_write, relr_apply, relr_read, relr_write,
 };
 
 fn answer(number: u32, place: u64, count: u64) -> Answer {
@@ -70,15 +70,34 @@ fn input_over_its_length() {
         assert_eq!(apply(4, 1, u64::MAX), two);
         assert_eq!(apply(4, 1 << 40, u64::MAX), answer(15, 0, 0));
     }
-    assert_eq!(apr1_read(&long, &mut []), two);
-    assert_eq!(apa1_read(&long, &mut [0; 2], &mut [0; 2]), two);
-    assert_eq!(apa1_read(&long, &mut [0; 2], &mut [0; 3]), answer(11, 0, 0));
-    let mut one = [0; 1];
-    assert_eq!(relleb_read(4, &long, &mut [], &mut [], &mut [], &mut []), two);
-    let uneven = relleb_read(8, &long, &mut [], &mut [], &mut one, &mut []);
-    assert_eq!(uneven, answer(11, 0, 0));
-    let bad = relleb_read(0, &long, &mut [], &mut [], &mut one, &mut []);
-    assert_eq!(bad, answer(1, 0, 0));
+    for strict in [LAX, STRICT] {
+        assert_eq!(apr1_read(strict, &long, &mut []), two);
+        assert_eq!(apa1_read(strict, &long, &mut [0; 2], &mut [0; 2]), two);
+        assert_eq!(apa1_read(strict, &long, &mut [0; 2], &mut [0; 3]), answer(11, 0, 0));
+        let mut one = [0; 1];
+        assert_eq!(relleb_read(4, strict, &long, &mut [], &mut [], &mut [], &mut []), two);
+        let uneven = relleb_read(8, strict, &long, &mut [], &mut [], &mut one, &mut []);
+        assert_eq!(uneven, answer(11, 0, 0));
+        let bad = relleb_read(0, strict, &long, &mut [], &mut [], &mut one, &mut []);
+        assert_eq!(bad, answer(1, 0, 0));
+    }
+}
+
+/// A padded number is 18 in a table at the limit, and behind 2 in one over it.
+#[test]
+fn padded_and_long() {
+    for over in [false, true] {
+        let length = MOST_INPUT + over as usize;
+        let table = |start: &[u8]| [start, &vec![0; length - start.len()]].concat();
+        let want = |place| if over { answer(2, 0, 0) } else { answer(18, place, 0) };
+        assert_eq!(apr1_read(STRICT, &table(b"APR1\x80"), &mut []), want(4));
+        assert_eq!(apa1_read(STRICT, &table(b"APA1\x80"), &mut [], &mut []), want(4));
+        for class in [4, 8] {
+            let table = table(b"\x80");
+            let read = relleb_read(class, STRICT, &table, &mut [], &mut [], &mut [], &mut []);
+            assert_eq!(read, want(0));
+        }
+    }
 }
 
 /// A table at the limit is read.
@@ -91,10 +110,12 @@ fn input_at_its_length() {
         assert_eq!(relr_apply(4, order, &full, 0, 0, &mut []), answer(12, 0, 0));
         assert_eq!(relr_apply(8, order, &full, 0, 1, &mut [0; 9]), answer(12, 0, 0));
     }
-    assert_eq!(apr1_read(&full, &mut []), answer(3, 0, 0));
-    assert_eq!(apa1_read(&full, &mut [], &mut []), answer(3, 0, 0));
-    let answered = relleb_read(8, &full, &mut [], &mut [], &mut [], &mut []);
-    assert_eq!(answered, answer(8, 1, 0));
+    for strict in [LAX, STRICT] {
+        assert_eq!(apr1_read(strict, &full, &mut []), answer(3, 0, 0));
+        assert_eq!(apa1_read(strict, &full, &mut [], &mut []), answer(3, 0, 0));
+        let answered = relleb_read(8, strict, &full, &mut [], &mut [], &mut [], &mut []);
+        assert_eq!(answered, answer(8, 1, 0));
+    }
 }
 
 /// A list one record over the limit is 2 before anything in it.
@@ -142,6 +163,8 @@ fn list_at_its_length() {
     assert_eq!(made, answer(0, 0, 30 * many + 4));
     let table = &table[..made.count as usize];
     assert!(table.len() <= MOST_INPUT);
-    let read = relleb_read(8, table, &mut [], &mut [], &mut [], &mut []);
-    assert_eq!(read, answer(9, 0, many));
+    for strict in [LAX, STRICT] {
+        let read = relleb_read(8, strict, table, &mut [], &mut [], &mut [], &mut []);
+        assert_eq!(read, answer(9, 0, many));
+    }
 }

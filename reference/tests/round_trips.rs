@@ -3,8 +3,8 @@
 use reference::ByteOrder::{self, Big, Little};
 use reference::corpus::rng::Rng;
 use reference::{
-    Answer, apa1_read, apa1_write, apr1_read, apr1_write, relleb_read, relleb_write, relr_apply,
-    relr_read, relr_write,
+    Answer, LAX, STRICT, apa1_read, apa1_write, apr1_read, apr1_write, relleb_read, relleb_write,
+    relr_apply, relr_read, relr_write,
 };
 use std::collections::BTreeMap;
 
@@ -12,6 +12,9 @@ const ROUNDS: usize = 2_000;
 
 /// Both classes in both byte orders.
 const FORMS: [(u32, ByteOrder); 4] = [(4, Little), (4, Big), (8, Little), (8, Big)];
+
+/// "the writers already meet the strict one": a table reads back in both.
+const SETTINGS: [bool; 2] = [LAX, STRICT];
 
 /// A strictly increasing list whose last offset is at most `last`.
 fn rising(rng: &mut Rng, step: u64, last: u64) -> Vec<u64> {
@@ -75,10 +78,12 @@ fn apr1() {
             continue;
         }
         let table = made(|room| apr1_write(&list, room));
-        let mut got = vec![0; list.len()];
-        let answer = apr1_read(&table, &mut got);
-        assert_eq!((answer.number, answer.count), (0, list.len() as u64));
-        assert_eq!(got, list);
+        for strict in SETTINGS {
+            let mut got = vec![0; list.len()];
+            let answer = apr1_read(strict, &table, &mut got);
+            assert_eq!((answer.number, answer.count), (0, list.len() as u64));
+            assert_eq!(got, list);
+        }
     }
 }
 
@@ -90,10 +95,12 @@ fn apa1() {
         let offsets: Vec<u64> = (0..count).map(|_| rng.any_size()).collect();
         let addends: Vec<i64> = (0..count).map(|_| signed(&mut rng, 64)).collect();
         let table = made(|room| apa1_write(&offsets, &addends, room));
-        let (mut o, mut a) = (vec![0; count], vec![0; count]);
-        let answer = apa1_read(&table, &mut o, &mut a);
-        assert_eq!((answer.number, answer.count), (0, count as u64));
-        assert_eq!((o, a), (offsets, addends));
+        for strict in SETTINGS {
+            let (mut o, mut a) = (vec![0; count], vec![0; count]);
+            let answer = apa1_read(strict, &table, &mut o, &mut a);
+            assert_eq!((answer.number, answer.count), (0, count as u64));
+            assert_eq!((&o, &a), (&offsets, &addends));
+        }
     }
 }
 
@@ -120,11 +127,13 @@ fn relleb_once(rng: &mut Rng, class: u32) {
         }
     }
     let table = made(|room| relleb_write(class, &offsets, &types, &symbols, &addends, room));
-    let (mut o, mut t) = (vec![0; count], vec![0; count]);
-    let (mut s, mut a) = (vec![0; count], vec![0; count]);
-    let answer = relleb_read(class, &table, &mut o, &mut t, &mut s, &mut a);
-    assert_eq!((answer.number, answer.count), (0, count as u64));
-    assert_eq!((o, t, s, a), (offsets, types, symbols, addends));
+    for strict in SETTINGS {
+        let (mut o, mut t) = (vec![0; count], vec![0; count]);
+        let (mut s, mut a) = (vec![0; count], vec![0; count]);
+        let answer = relleb_read(class, strict, &table, &mut o, &mut t, &mut s, &mut a);
+        assert_eq!((answer.number, answer.count), (0, count as u64));
+        assert_eq!((&o, &t, &s, &a), (&offsets, &types, &symbols, &addends));
+    }
 }
 
 /// A signed number of the width, of any size.
@@ -295,7 +304,7 @@ fn moves(rng: &mut Rng, class: u32, order: ByteOrder, table: &[u8]) -> bool {
     let [a, b] = [rng.draw() & top, rng.draw() & top];
     let old: Vec<u8> = (0..200).map(|_| rng.draw() as u8).collect();
     let [mut twice, mut once] = [old.clone(), old];
-    let mut apply = |base, image: &mut Vec<u8>| {
+    let apply = |base, image: &mut Vec<u8>| {
         assert_eq!(relr_apply(class, order, table, base, 0x1000, image).number, 0);
     };
     apply(a, &mut twice);

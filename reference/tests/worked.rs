@@ -4,8 +4,8 @@
 use reference::ByteOrder::{self, Big, Little};
 use reference::leb::{self, Kind::Signed, Kind::Unsigned};
 use reference::{
-    Answer, apa1_read, apa1_write, apr1_read, apr1_write, relleb_read, relleb_write, relr_apply,
-    relr_read, relr_write,
+    Answer, LAX, STRICT, apa1_read, apa1_write, apr1_read, apr1_write, relleb_read, relleb_write,
+    relr_apply, relr_read, relr_write,
 };
 
 fn done(count: u64) -> Answer {
@@ -17,6 +17,8 @@ fn refused(number: u32, place: u64) -> Answer {
 }
 
 const ORDERS: [ByteOrder; 2] = [Little, Big];
+
+const SETTINGS: [bool; 2] = [LAX, STRICT];
 
 fn bytes(class: u32, order: ByteOrder, words: &[u64]) -> Vec<u8> {
     let size = class as usize;
@@ -75,9 +77,11 @@ fn c_to_g_relr() {
 fn h_apr1() {
     let list = [0x1000, 0x1004, 0x1008, 0x1010];
     let table = [0x41, 0x50, 0x52, 0x31, 0x02, 0x80, 0x20, 0x02, 0x04, 0x01, 0x08];
-    let mut got = [0; 4];
-    assert_eq!(apr1_read(&table, &mut got), done(4));
-    assert_eq!(got, list);
+    for strict in SETTINGS {
+        let mut got = [0; 4];
+        assert_eq!(apr1_read(strict, &table, &mut got), done(4));
+        assert_eq!(got, list);
+    }
     let mut made = [0; 11];
     assert_eq!(apr1_write(&list, &mut made), done(11));
     assert_eq!(made, table);
@@ -87,8 +91,11 @@ fn h_apr1() {
 fn i_apa1() {
     let table = [0x41, 0x50, 0x41, 0x31, 0x02, 0x80, 0x20, 0x10, 0x08, 0x08];
     let (mut o, mut a) = ([0; 2], [0; 2]);
-    assert_eq!(apa1_read(&table, &mut o, &mut a), done(2));
-    assert_eq!((o, a), ([0x1000, 0x1008], [16, 24]));
+    for strict in SETTINGS {
+        (o, a) = ([0; 2], [0; 2]);
+        assert_eq!(apa1_read(strict, &table, &mut o, &mut a), done(2));
+        assert_eq!((o, a), ([0x1000, 0x1008], [16, 24]));
+    }
     let mut made = [0; 10];
     assert_eq!(apa1_write(&o, &a, &mut made), done(10));
     assert_eq!(made, table);
@@ -98,9 +105,12 @@ fn i_apa1() {
 fn p_relleb() {
     let table = [0x02, 0x10, 0x81, 0x02, 0x7C, 0x7C, 0x08, 0x00, 0x03];
     let (mut o, mut t, mut s, mut a) = ([0; 2], [0; 2], [0; 2], [0; 2]);
-    let answer = relleb_read(8, &table, &mut o, &mut t, &mut s, &mut a);
-    assert_eq!(answer, done(2));
-    assert_eq!((o, t, s, a), ([16, 24], [257, 257], [3, 3], [-4, -4]));
+    for strict in SETTINGS {
+        (o, t, s, a) = ([0; 2], [0; 2], [0; 2], [0; 2]);
+        let answer = relleb_read(8, strict, &table, &mut o, &mut t, &mut s, &mut a);
+        assert_eq!(answer, done(2));
+        assert_eq!((o, t, s, a), ([16, 24], [257, 257], [3, 3], [-4, -4]));
+    }
     let mut made = [0; 9];
     assert_eq!(relleb_write(8, &o, &t, &s, &a, &mut made), done(9));
     assert_eq!(made, table);
@@ -132,9 +142,11 @@ fn k_top_of_the_space() {
 #[test]
 fn l_apa1_count() {
     let (mut o, mut a) = ([0; 64], [0; 64]);
-    assert_eq!(apa1_read(b"APA1\x40", &mut o, &mut a), refused(5, 4));
     let table = [&b"APA1\xC0\x00"[..], &[1; 128]].concat();
-    assert_eq!(apa1_read(&table, &mut o, &mut a), done(64));
+    for strict in SETTINGS {
+        assert_eq!(apa1_read(strict, b"APA1\x40", &mut o, &mut a), refused(5, 4));
+        assert_eq!(apa1_read(strict, &table, &mut o, &mut a), done(64));
+    }
     let mut made = [0; 134];
     assert_eq!(apa1_write(&o, &a, &mut made), done(134));
     assert_eq!(made[..], table);
@@ -332,19 +344,23 @@ fn apply_order_counts() {
 
 #[test]
 fn apr1_empty_and_still_pairs() {
-    let mut list = [9; 8];
     let table = b"APR1\x04\x08\x00\x7F\x02\x00\x00\x01\x03\x05";
-    assert_eq!(apr1_read(table, &mut list), done(6));
-    assert_eq!(list, [8, 8, 8, 13, 18, 23, 9, 9]);
+    for strict in SETTINGS {
+        let mut list = [9; 8];
+        assert_eq!(apr1_read(strict, table, &mut list), done(6));
+        assert_eq!(list, [8, 8, 8, 13, 18, 23, 9, 9]);
+    }
 }
 
 #[test]
 fn apa1_sums_wrap() {
-    let (mut o, mut a) = ([0; 3], [0; 3]);
     let largest = [0xFF, 0xFF, 0xFF, 0xFF, 0xFF, 0xFF, 0xFF, 0xFF, 0xFF, 0x00];
     let table = [&b"APA1\x03\x7F"[..], &largest, &[2, 1, 0, 0]].concat();
-    assert_eq!(apa1_read(&table, &mut o, &mut a), done(3));
-    assert_eq!((o, a), ([u64::MAX, 1, 1], [i64::MAX, i64::MIN, i64::MIN]));
+    for strict in SETTINGS {
+        let (mut o, mut a) = ([0; 3], [0; 3]);
+        assert_eq!(apa1_read(strict, &table, &mut o, &mut a), done(3));
+        assert_eq!((o, a), ([u64::MAX, 1, 1], [i64::MAX, i64::MIN, i64::MIN]));
+    }
 }
 
 #[test]
@@ -357,13 +373,61 @@ fn relleb_sums_wrap_at_the_class() {
         &[0, 0x7F, 0xFF, 0xFF, 0xFF, 0xFF, 0x0F],
     ]
     .concat();
-    let read = |class| {
+    let read = |class, strict| {
         let (mut o, mut t, mut s, mut a) = ([0; 3], [0; 3], [0; 3], [0; 3]);
-        assert_eq!(relleb_read(class, &table, &mut o, &mut t, &mut s, &mut a), done(3));
+        assert_eq!(relleb_read(class, strict, &table, &mut o, &mut t, &mut s, &mut a), done(3));
         assert_eq!((t, s), ([u32::MAX, 1, 0], [1, 0, u32::MAX]));
         (o, a)
     };
     let (over, least) = (0x1_0000_0001, -0x8000_0000);
-    assert_eq!(read(4), ([0xFFFF_FFFF, 1, 1], [0x7FFF_FFFF, least, least]));
-    assert_eq!(read(8), ([0xFFFF_FFFF, over, over], [0x7FFF_FFFF, -least, -least]));
+    for strict in SETTINGS {
+        assert_eq!(read(4, strict), ([0xFFFF_FFFF, 1, 1], [0x7FFF_FFFF, least, least]));
+        assert_eq!(read(8, strict), ([0xFFFF_FFFF, over, over], [0x7FFF_FFFF, -least, -least]));
+    }
+}
+
+/// "New number 18: a number longer than its shortest form, at its first byte; 4 and 5
+/// come before it for the same number."
+#[test]
+fn padded_numbers() {
+    let apr1 = |strict, table: &[u8]| apr1_read(strict, &[b"APR1", table].concat(), &mut [0; 9]);
+    let apa1 = |strict, table: &[u8]| {
+        apa1_read(strict, &[b"APA1", table].concat(), &mut [0; 9], &mut [0; 9])
+    };
+    // D padded, A padded; a padded pair that ends outside the space
+    assert_eq!(apr1(LAX, &[1, 8, 2, 0x84, 0]), done(3));
+    assert_eq!(apr1(STRICT, &[1, 8, 2, 0x84, 0]), refused(18, 7));
+    assert_eq!(apr1(STRICT, &[1, 0x88, 0x80, 0, 2, 0x84, 0]), refused(18, 5));
+    let outside = [1, 0xFC, 0xFF, 0xFF, 0xFF, 0x0F, 1, 0x84, 0];
+    assert_eq!(apr1(LAX, &outside), refused(7, 10));
+    assert_eq!(apr1(STRICT, &outside), refused(18, 11));
+    // cut, and with a bad last allowed byte
+    assert_eq!(apr1(STRICT, &[0x80, 0x80]), refused(4, 6));
+    assert_eq!(apr1(STRICT, &[0x80, 0x80, 0x80, 0x80, 0x80]), refused(5, 8));
+    // 64 takes two bytes, 63 one; a negative count is 5
+    assert_eq!(apa1(STRICT, &[1, 0xC0, 0, 0xBF, 0x7F]), done(1));
+    assert_eq!(apa1(STRICT, &[1, 0xBF, 0, 0]), refused(18, 5));
+    assert_eq!(apa1(LAX, &[1, 0xBF, 0, 0]), done(1));
+    assert_eq!(apa1(STRICT, &[0xC0, 0x7F]), refused(5, 4));
+    assert_eq!(apa1(LAX, &[0xC0, 0x7F]), refused(5, 4));
+}
+
+/// "New number 19: a RELLEB addend difference of zero, at its first byte, after 18."
+#[test]
+fn addend_differences_of_zero() {
+    let read = |class, strict, table: &[u8]| {
+        let (mut o, mut t, mut s, mut a) = ([0; 2], [0; 2], [0; 2], [0; 2]);
+        relleb_read(class, strict, table, &mut o, &mut t, &mut s, &mut a)
+    };
+    let (zero, padded) = ([1, 0, 0, 0x7F, 0], [1, 0, 0, 0x7F, 0x80, 0]);
+    let later = [2, 0, 0, 0x7F, 5, 0, 0, 0x7F, 0];
+    let back = [2, 0, 0, 0x7F, 5, 0, 0, 0x7F, 0x7B];
+    for class in [4, 8] {
+        assert_eq!((read(class, LAX, &zero), read(class, LAX, &padded)), (done(1), done(1)));
+        assert_eq!(read(class, STRICT, &zero), refused(19, 4));
+        assert_eq!(read(class, STRICT, &padded), refused(18, 4));
+        assert_eq!(read(class, LAX, &later), done(2));
+        assert_eq!(read(class, STRICT, &later), refused(19, 8));
+        assert_eq!(read(class, STRICT, &back), done(2));
+    }
 }

@@ -58,6 +58,7 @@ unsafe extern "C" {
     ) -> Answer;
 
     pub fn reloc_apr1_read(
+        strict: bool,
         table: *const u8,
         table_len: usize,
         offsets: *mut u64,
@@ -72,6 +73,7 @@ unsafe extern "C" {
     ) -> Answer;
 
     pub fn reloc_apa1_read(
+        strict: bool,
         table: *const u8,
         table_len: usize,
         offsets: *mut u64,
@@ -91,6 +93,7 @@ unsafe extern "C" {
 
     pub fn reloc_relleb_read(
         class: u32,
+        strict: bool,
         table: *const u8,
         table_len: usize,
         offsets: *mut u64,

@@ -28,6 +28,27 @@
 //! # Ok::<(), reloc::Refusal>(())
 //! ```
 //!
+//! The readers of LEB128 numbers take a setting, `strict`: false is lax, where a
+//! number may be padded; true is strict, where a number longer than its shortest
+//! form is refused ([`Kind::Padded`]), and a RELLEB addend difference of zero too
+//! ([`Kind::Zero`]). A table that is accepted strictly is read as the same list lax;
+//! every table of these kinds that the library writes is accepted strictly.
+//!
+//! ```
+//! use reloc::{Kind, apr1_read};
+//!
+//! // 624485 in three bytes, its shortest form, and in five.
+//! let short = b"APR1\x00\xE5\x8E\x26";
+//! let padded = b"APR1\x00\xE5\x8E\xA6\x80\x00";
+//! let mut offsets = [0];
+//! for (strict, table) in [(false, &short[..]), (true, &short[..]), (false, &padded[..])] {
+//!     assert_eq!(apr1_read(strict, table, &mut offsets), Ok(1));
+//!     assert_eq!(offsets, [624485]);
+//! }
+//! let refusal = apr1_read(true, padded, &mut offsets).unwrap_err();
+//! assert_eq!((refusal.kind(), refusal.place), (Kind::Padded, 5));
+//! ```
+//!
 //! The crate needs neither `std` nor a heap. [`VERSION`] is that of `reloc.h`;
 //! [`version`] asks the library that was linked.
 
@@ -56,7 +77,7 @@ impl ByteOrder {
 }
 
 /// The version of this wrapper: major × 1,000,000 + minor × 1,000 + patch.
-pub const VERSION: u32 = 6_001;
+pub const VERSION: u32 = 7_000;
 
 /// The longest table that is read or applied, in bytes.
 pub const INPUT_LIMIT: usize = 134_217_728;
@@ -206,14 +227,22 @@ pub fn relr_apply(
     .result()
 }
 
-/// Reads an APR1 table.
+/// Reads an APR1 table, lax or `strict`. Strict reading is about each number's own
+/// bytes: two tables that it accepts can still give one list, since a run of equal
+/// gaps may be split in two pairs, and a pair of no offsets added.
 ///
 /// Refuses [`Kind::Limit`], [`Kind::Identifier`], then the first of
-/// [`Kind::Missing`], [`Kind::Width`] and [`Kind::Space`] along the table, then
-/// [`Kind::Trailing`], [`Kind::Room`].
-pub fn apr1_read(table: &[u8], offsets: &mut [u64]) -> Result<usize, Refusal> {
+/// [`Kind::Missing`], [`Kind::Width`], [`Kind::Padded`] (strict) and
+/// [`Kind::Space`] along the table, then [`Kind::Trailing`], [`Kind::Room`].
+pub fn apr1_read(strict: bool, table: &[u8], offsets: &mut [u64]) -> Result<usize, Refusal> {
     unsafe {
-        ffi::reloc_apr1_read(table.as_ptr(), table.len(), offsets.as_mut_ptr(), offsets.len())
+        ffi::reloc_apr1_read(
+            strict,
+            table.as_ptr(),
+            table.len(),
+            offsets.as_mut_ptr(),
+            offsets.len(),
+        )
     }
     .result()
 }
@@ -230,14 +259,21 @@ pub fn apr1_write(offsets: &[u64], table: &mut [u8]) -> Result<usize, Refusal> {
     .result()
 }
 
-/// Reads an APA1 table.
+/// Reads an APA1 table, lax or `strict`.
 ///
 /// Refuses [`Kind::Columns`], [`Kind::Limit`], [`Kind::Identifier`], then the
-/// first of [`Kind::Missing`] and [`Kind::Width`] along the table, then
-/// [`Kind::Trailing`], [`Kind::Room`].
-pub fn apa1_read(table: &[u8], offsets: &mut [u64], addends: &mut [i64]) -> Result<usize, Refusal> {
+/// first of [`Kind::Missing`], [`Kind::Width`] and [`Kind::Padded`] (strict) along
+/// the table, then [`Kind::Trailing`], [`Kind::Room`]. A negative count is
+/// [`Kind::Width`], padded or not.
+pub fn apa1_read(
+    strict: bool,
+    table: &[u8],
+    offsets: &mut [u64],
+    addends: &mut [i64],
+) -> Result<usize, Refusal> {
     unsafe {
         ffi::reloc_apa1_read(
+            strict,
             table.as_ptr(),
             table.len(),
             offsets.as_mut_ptr(),
@@ -266,13 +302,15 @@ pub fn apa1_write(offsets: &[u64], addends: &[i64], table: &mut [u8]) -> Result<
     .result()
 }
 
-/// Reads a RELLEB table.
+/// Reads a RELLEB table, lax or `strict`.
 ///
 /// Refuses [`Kind::Class`], [`Kind::Columns`], [`Kind::Limit`], then the first
-/// of [`Kind::Missing`] and [`Kind::Width`] along the table, then
-/// [`Kind::Trailing`], [`Kind::Room`].
+/// of [`Kind::Missing`], [`Kind::Width`], [`Kind::Padded`] and [`Kind::Zero`]
+/// (these two strict) along the table, then [`Kind::Trailing`], [`Kind::Room`]. An
+/// addend difference of zero that is padded is [`Kind::Padded`].
 pub fn relleb_read(
     class: u32,
+    strict: bool,
     table: &[u8],
     offsets: &mut [u64],
     types: &mut [u32],
@@ -282,6 +320,7 @@ pub fn relleb_read(
     unsafe {
         ffi::reloc_relleb_read(
             class,
+            strict,
             table.as_ptr(),
             table.len(),
             offsets.as_mut_ptr(),

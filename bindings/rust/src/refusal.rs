@@ -53,6 +53,11 @@ pub enum Kind {
     Addend,
     /// 15: apply, class 4: a base above 2^32 − 1.
     Base,
+    /// 18: strict read: a number longer than its shortest form. Place: its first
+    /// byte.
+    Padded,
+    /// 19: strict RELLEB read: an addend difference of zero. Place: its first byte.
+    Zero,
     /// A number without a name here.
     Unknown,
 }
@@ -76,6 +81,8 @@ impl Refusal {
             13 => Kind::Empty,
             14 => Kind::Addend,
             15 => Kind::Base,
+            18 => Kind::Padded,
+            19 => Kind::Zero,
             _ => Kind::Unknown,
         }
     }
@@ -99,6 +106,8 @@ impl fmt::Display for Kind {
             Kind::Empty => "empty list",
             Kind::Addend => "addend outside signed 32 bits",
             Kind::Base => "base above 2^32 - 1",
+            Kind::Padded => "number longer than its shortest form",
+            Kind::Zero => "addend difference of zero",
             Kind::Unknown => "unknown refusal",
         })
     }

@@ -14,7 +14,13 @@ fn needs(need: u64) -> Result<usize, Refusal> {
     Err(Refusal { number: 9, place: 0, need })
 }
 
+/// What the settings answer: lax, then strict.
+type Answers = [Result<usize, Refusal>; 2];
+
 const ORDERS: [ByteOrder; 2] = [Little, Big];
+
+/// Lax and strict.
+const SETTINGS: [bool; 2] = [false, true];
 
 fn bytes(class: u32, order: ByteOrder, words: &[u64]) -> Vec<u8> {
     let size = class as usize;
@@ -51,12 +57,13 @@ fn relr_both_ways(class: u32, list: &[u64], words: &[u64]) {
 /// Numbers in a table: A as APR1's first offset, B as an APA1 addend.
 #[test]
 fn a_and_b() {
-    let mut offsets = [0];
-    assert_eq!(apr1_read(b"APR1\x00\xE5\x8E\x26", &mut offsets), Ok(1));
-    assert_eq!(offsets, [624485]);
-    let mut addends = [0];
-    assert_eq!(apa1_read(b"APA1\x01\x00\xC0\xBB\x78", &mut offsets, &mut addends), Ok(1));
-    assert_eq!((offsets, addends), ([0], [-123456]));
+    for strict in SETTINGS {
+        let (mut o, mut a) = ([0], [0]);
+        assert_eq!(apr1_read(strict, b"APR1\x00\xE5\x8E\x26", &mut o), Ok(1));
+        assert_eq!(o, [624485]);
+        assert_eq!(apa1_read(strict, b"APA1\x01\x00\xC0\xBB\x78", &mut o, &mut a), Ok(1));
+        assert_eq!((o, a), ([0], [-123456]));
+    }
 }
 
 #[test]
@@ -74,9 +81,12 @@ fn c_to_g() {
 fn h() {
     let list = [0x1000, 0x1004, 0x1008, 0x1010];
     let table = b"APR1\x02\x80\x20\x02\x04\x01\x08";
-    let (mut got, mut made) = ([0; 4], [0; 11]);
-    assert_eq!(apr1_read(table, &mut got), Ok(4));
-    assert_eq!(got, list);
+    for strict in SETTINGS {
+        let mut got = [0; 4];
+        assert_eq!(apr1_read(strict, table, &mut got), Ok(4));
+        assert_eq!(got, list);
+    }
+    let mut made = [0; 11];
     assert_eq!(apr1_write(&list, &mut made), Ok(11));
     assert_eq!(made, *table);
     assert_eq!(apr1_write(&[], &mut made), refused(13, 0));
@@ -85,9 +95,13 @@ fn h() {
 #[test]
 fn i() {
     let table = b"APA1\x02\x80\x20\x10\x08\x08";
-    let (mut offsets, mut addends, mut made) = ([0; 2], [0; 2], [0; 10]);
-    assert_eq!(apa1_read(table, &mut offsets, &mut addends), Ok(2));
-    assert_eq!((offsets, addends), ([0x1000, 0x1008], [16, 24]));
+    let (offsets, addends) = ([0x1000, 0x1008], [16, 24]);
+    for strict in SETTINGS {
+        let (mut o, mut a) = ([0; 2], [0; 2]);
+        assert_eq!(apa1_read(strict, table, &mut o, &mut a), Ok(2));
+        assert_eq!((o, a), (offsets, addends));
+    }
+    let mut made = [0; 10];
     assert_eq!(apa1_write(&offsets, &addends, &mut made), Ok(10));
     assert_eq!(made, *table);
     assert_eq!(apa1_write(&offsets, &addends[1..], &mut made), refused(11, 0));
@@ -96,13 +110,23 @@ fn i() {
 #[test]
 fn p() {
     let table = [0x02, 0x10, 0x81, 0x02, 0x7C, 0x7C, 0x08, 0x00, 0x03];
-    let (mut o, mut t, mut s, mut a) = ([0; 2], [0; 2], [0; 2], [0; 2]);
-    assert_eq!(relleb_read(8, &table, &mut o, &mut t, &mut s, &mut a), Ok(2));
-    assert_eq!((o, t, s, a), ([16, 24], [257, 257], [3, 3], [-4, -4]));
+    let (o, t, s, a) = ([16, 24], [257, 257], [3, 3], [-4, -4]);
+    for strict in SETTINGS {
+        assert_eq!(relleb(8, strict, &table), (Ok(2), o, t, s, a));
+    }
     let mut made = [0; 9];
     assert_eq!(relleb_write(8, &o, &t, &s, &a, &mut made), Ok(9));
     assert_eq!(made, table);
     assert_eq!(relleb_write(4, &o, &t, &s, &[0, 1 << 31], &mut made), refused(14, 1));
+}
+
+type Records = (Result<usize, Refusal>, [u64; 2], [u32; 2], [u32; 2], [i64; 2]);
+
+/// Reads a RELLEB table into columns of two zeros; the answer, and the columns.
+fn relleb(class: u32, strict: bool, table: &[u8]) -> Records {
+    let (mut o, mut t, mut s, mut a) = ([0; 2], [0; 2], [0; 2], [0; 2]);
+    let answer = relleb_read(class, strict, table, &mut o, &mut t, &mut s, &mut a);
+    (answer, o, t, s, a)
 }
 
 #[test]
@@ -131,11 +155,13 @@ fn k() {
 
 #[test]
 fn l() {
-    let (mut o, mut a) = ([0; 64], [0; 64]);
-    assert_eq!(apa1_read(b"APA1\x40", &mut o, &mut a), refused(5, 4));
-    let table = [&b"APA1\xC0\x00"[..], &[1; 128]].concat();
-    assert_eq!(apa1_read(&table, &mut o, &mut a), Ok(64));
-    assert_eq!((o[63], a[63]), (64, 64));
+    for strict in SETTINGS {
+        let (mut o, mut a) = ([0; 64], [0; 64]);
+        assert_eq!(apa1_read(strict, b"APA1\x40", &mut o, &mut a), refused(5, 4));
+        let table = [&b"APA1\xC0\x00"[..], &[1; 128]].concat();
+        assert_eq!(apa1_read(strict, &table, &mut o, &mut a), Ok(64));
+        assert_eq!((o[63], a[63]), (64, 64));
+    }
 }
 
 #[test]
@@ -221,9 +247,95 @@ fn outside_an_image_with_a_start() {
 #[test]
 fn the_guilty_byte() {
     let table = b"APR1\x80\x80\x80\x80\x10\x00";
-    let refusal = apr1_read(table, &mut [0; 4]).unwrap_err();
-    assert_eq!(refusal.kind(), Kind::Width);
-    assert_eq!(table[refusal.place as usize], 0x10);
+    for strict in SETTINGS {
+        let refusal = apr1_read(strict, table, &mut [0; 4]).unwrap_err();
+        assert_eq!(refusal.kind(), Kind::Width);
+        assert_eq!(table[refusal.place as usize], 0x10);
+    }
+}
+
+/// APR1 tables: what a lax read answers, and what a strict one.
+#[test]
+fn padded_in_apr1() {
+    let answers: [(&[u8], Answers); 9] = [
+        // 624485 in five bytes; in three, its shortest form.
+        (b"APR1\x00\xE5\x8E\xA6\x80\x00", [Ok(1), refused(18, 5)]),
+        (b"APR1\x00\xE5\x8E\x26", [Ok(1); 2]),
+        // Zero in two bytes: as N, A, C and D.
+        (b"APR1\x80\x00\x00", [Ok(1), refused(18, 4)]),
+        (b"APR1\x00\x80\x00", [Ok(1), refused(18, 5)]),
+        (b"APR1\x01\x00\x80\x00\x00", [Ok(1), refused(18, 6)]),
+        (b"APR1\x01\x00\x02\x80\x00", [Ok(3), refused(18, 7)]),
+        // A split run, and a pair of no offsets.
+        (b"APR1\x03\x00\x01\x04\x01\x04\x00\x00", [Ok(3); 2]),
+        // D is padded in a pair that leaves the space.
+        (b"APR1\x01\xFC\xFF\xFF\xFF\x0F\x01\x84\x00", [refused(7, 10), refused(18, 11)]),
+        // The end comes before the padding.
+        (b"APR1\x00\x80", [refused(4, 6); 2]),
+    ];
+    for (table, want) in answers {
+        let read = |strict| apr1_read(strict, table, &mut [0; 4]);
+        assert_eq!(SETTINGS.map(read), want, "{table:x?}");
+    }
+}
+
+/// The same of APA1 tables.
+#[test]
+fn padded_in_apa1() {
+    let answers: [(&[u8], Answers); 8] = [
+        // -1 and 64 in two bytes: the second is in its shortest form.
+        (b"APA1\x01\xFF\x7F\x00", [Ok(1), refused(18, 5)]),
+        (b"APA1\x01\xC0\x00\x00", [Ok(1); 2]),
+        // -128 and 63 in two bytes.
+        (b"APA1\x01\x00\x80\x7F", [Ok(1); 2]),
+        (b"APA1\x01\x00\xBF\x00", [Ok(1), refused(18, 6)]),
+        // The count: 1 in two bytes, and -64, whose sign comes first.
+        (b"APA1\x81\x00\x00\x00", [Ok(1), refused(18, 4)]),
+        (b"APA1\xC0\x7F", [refused(5, 4); 2]),
+        // Zero in ten bytes, and one that leaves the width.
+        (b"APA1\x01\x80\x80\x80\x80\x80\x80\x80\x80\x80\x00\x00", [Ok(1), refused(18, 5)]),
+        (b"APA1\x01\x80\x80\x80\x80\x80\x80\x80\x80\x80\x01\x00", [refused(5, 14); 2]),
+    ];
+    for (table, want) in answers {
+        let read = |strict| apa1_read(strict, table, &mut [0; 4], &mut [0; 4]);
+        assert_eq!(SETTINGS.map(read), want, "{table:x?}");
+    }
+}
+
+/// The same of RELLEB tables, in both classes.
+#[test]
+fn padded_in_relleb() {
+    let answers: [(&[u8], Answers); 8] = [
+        // The count, and each field of a record.
+        (&[0x80, 0], [Ok(0), refused(18, 0)]),
+        (&[1, 0x90, 0, 0, 3], [Ok(1), refused(18, 1)]),
+        (&[1, 16, 0x81, 0, 3], [Ok(1), refused(18, 2)]),
+        (&[1, 16, 0, 0xFC, 0x7F, 4], [Ok(1), refused(18, 3)]),
+        (&[1, 16, 0, 0x7C, 0xFC, 0x7F], [Ok(1), refused(18, 4)]),
+        // An addend difference of zero, padded and not; and that of the second
+        // record, before the third that is missing.
+        (&[1, 16, 0, 0x7C, 0x80, 0], [Ok(1), refused(18, 4)]),
+        (&[1, 16, 0, 0x7C, 0], [Ok(1), refused(19, 4)]),
+        (&[3, 16, 0, 0x7C, 4, 0, 0, 0x7F, 0], [refused(4, 9), refused(19, 8)]),
+    ];
+    for (table, want) in answers {
+        for class in [4, 8] {
+            let read = |strict| relleb(class, strict, table).0;
+            assert_eq!(SETTINGS.map(read), want, "class {class} {table:x?}");
+        }
+    }
+}
+
+/// A strict refusal changes nothing; lax, a zero difference gives the addend before.
+#[test]
+fn refused_strictly_unchanged() {
+    let table = [2, 16, 0, 0x7C, 9, 8, 0, 0x7C, 0];
+    let list = ([16, 24], [0; 2], [3; 2], [9; 2]);
+    assert_eq!(relleb(8, false, &table), (Ok(2), list.0, list.1, list.2, list.3));
+    assert_eq!(relleb(8, true, &table), (refused(19, 8), [0; 2], [0; 2], [0; 2], [0; 2]));
+    let mut offsets = [7; 4];
+    assert_eq!(apr1_read(true, b"APR1\x01\x00\x02\x84\x00", &mut offsets), refused(18, 7));
+    assert_eq!(offsets, [7; 4]);
 }
 
 #[test]
@@ -235,4 +347,6 @@ fn a_refusal_tells_its_kind() {
     assert_eq!(refusal.to_string(), "refused 9 at 0: too little room, 8 needed");
     let refusal = relr_apply(8, Little, &[0; 8], 0, 1, &mut [0; 16]).unwrap_err();
     assert_eq!(refusal.to_string(), "refused 12 at 0: word not inside the image");
+    let refusal = apr1_read(true, b"APR1\x80\x00\x00", &mut []).unwrap_err();
+    assert_eq!(refusal.to_string(), "refused 18 at 4: number longer than its shortest form");
 }

@@ -11,9 +11,11 @@ const MOST_ROOM: u64 = 20_000;
 
 pub struct Build<'a> {
     pub rng: &'a mut Rng,
-    /// Whether there are edges too. The corpus draws none, nor any number for
-    /// them, so that it stays as it is.
+    /// Whether there are edges too. The corpus's rounds draw none, nor any number
+    /// for them, so that they stay as they are.
     pub edges: bool,
+    /// One number of a table in so many is padded; none where it is 0.
+    pub padding: u64,
 }
 
 impl Build<'_> {

@@ -94,7 +94,8 @@ impl Build<'_> {
     /// A number of a table: sometimes padded; among the edges with any last
     /// byte.
     pub fn number(&mut self, kind: Kind, value: i128) -> Vec<u8> {
-        let more = if self.rng.once_in(6) { self.rng.index(10) } else { 0 };
+        let padding = self.padding > 0 && self.rng.once_in(self.padding);
+        let more = if padding { self.rng.index(10) } else { 0 };
         let mut bytes = padded(kind, value, more);
         if self.edge(60) {
             bytes = padded(kind, value, 10);
@@ -166,7 +167,7 @@ impl Build<'_> {
                 table.extend(self.number(kind, value));
             }
             if values[2] < 0 {
-                let addend = self.value(Signed(bits));
+                let addend = if self.edge(12) { 0 } else { self.value(Signed(bits)) };
                 table.extend(self.number(Signed(bits), addend));
             }
         }

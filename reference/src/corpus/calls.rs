@@ -1,7 +1,9 @@
 //! The calls, a row each.
 
-use Setting::{Base, Class, Order, Start};
+use Setting::{Base, Class, Order, Start, Strict};
 use Shape::{Apply, Read, Write};
+
+use crate::{LAX, STRICT};
 
 // A call's code: its row.
 pub const RELR_READ: u8 = 0;
@@ -36,6 +38,9 @@ pub enum Setting {
     Start,
 }
 
+/// The refusals that the strict setting alone gives.
+const STRICT_ALONE: [u32; 2] = [18, 19];
+
 pub struct Call {
     pub name: &'static str,
     pub shape: Shape,
@@ -43,7 +48,7 @@ pub struct Call {
     pub settings: &'static [Setting],
     /// Whether it has offsets, types, symbols, addends.
     pub columns: [bool; 4],
-    /// Those that document 01 allows it.
+    /// Those that documents 01 and 02 allow it.
     pub refusals: &'static [u32],
 }
 
@@ -65,6 +70,16 @@ impl Call {
     pub fn takes(&self, setting: Setting) -> bool {
         self.settings.contains(&setting)
     }
+
+    /// What the call can be told of strictness.
+    pub fn strictness(&self) -> &'static [bool] {
+        if self.takes(Strict) { &[LAX, STRICT] } else { &[LAX] }
+    }
+
+    /// Whether a call that is told so may refuse with a number.
+    pub fn allows(&self, strict: bool, number: u32) -> bool {
+        self.refusals.contains(&number) && (strict || !STRICT_ALONE.contains(&number))
+    }
 }
 
 const NONE: [bool; 4] = [false; 4];
@@ -77,10 +92,10 @@ pub const CALLS: &[Call] = &[
     Call::row("relr_read", Read, &[Class, Order], OFFSETS, &[1, 2, 4, 6, 7, 9]),
     Call::row("relr_write", Write, &[Class, Order], OFFSETS, &[1, 2, 6, 7, 9, 10]),
     Call::row("relr_apply", Apply, &[Class, Order, Base, Start], NONE, &[1, 2, 4, 6, 7, 12, 15]),
-    Call::row("apr1_read", Read, &[], OFFSETS, &[2, 3, 4, 5, 7, 8, 9]),
+    Call::row("apr1_read", Read, &[Strict], OFFSETS, &[2, 3, 4, 5, 7, 8, 9, 18]),
     Call::row("apr1_write", Write, &[], OFFSETS, &[2, 6, 7, 9, 13]),
-    Call::row("apa1_read", Read, &[], ADDENDS, &[2, 3, 4, 5, 8, 9, 11]),
+    Call::row("apa1_read", Read, &[Strict], ADDENDS, &[2, 3, 4, 5, 8, 9, 11, 18]),
     Call::row("apa1_write", Write, &[], ADDENDS, &[2, 9, 11]),
-    Call::row("relleb_read", Read, &[Class], ALL, &[1, 2, 4, 5, 8, 9, 11]),
+    Call::row("relleb_read", Read, &[Class, Strict], ALL, &[1, 2, 4, 5, 8, 9, 11, 18, 19]),
     Call::row("relleb_write", Write, &[Class], ALL, &[1, 2, 7, 9, 11, 14]),
 ];

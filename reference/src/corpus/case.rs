@@ -25,7 +25,7 @@ pub struct Case {
     pub class: u32,
     /// The words of tables and image are big-endian.
     pub big: bool,
-    /// Padded numbers are refused.
+    /// Padded numbers are refused, and addend differences of zero.
     pub strict: bool,
     pub base: u64,
     /// The address of the image's first byte.
@@ -115,6 +115,11 @@ impl Case {
         if self.big { ByteOrder::Big } else { ByteOrder::Little }
     }
 
+    /// Whether a setting is on that makes a case the twin of another.
+    pub fn is_twin(&self) -> bool {
+        self.big || self.strict
+    }
+
     pub fn is_write(&self) -> bool {
         self.call().shape == Shape::Write
     }
@@ -144,11 +149,11 @@ impl Case {
             RELR_READ => relr_read(c.class, order, &c.input, o),
             RELR_WRITE => relr_write(c.class, order, o, &mut c.bytes),
             RELR_APPLY => relr_apply(c.class, order, &c.input, c.base, c.start, &mut c.bytes),
-            APR1_READ => apr1_read(&c.input, o),
+            APR1_READ => apr1_read(c.strict, &c.input, o),
             APR1_WRITE => apr1_write(o, &mut c.bytes),
-            APA1_READ => apa1_read(&c.input, o, a),
+            APA1_READ => apa1_read(c.strict, &c.input, o, a),
             APA1_WRITE => apa1_write(o, a, &mut c.bytes),
-            RELLEB_READ => relleb_read(c.class, &c.input, o, t, s, a),
+            RELLEB_READ => relleb_read(c.class, c.strict, &c.input, o, t, s, a),
             RELLEB_WRITE => relleb_write(c.class, o, t, s, a, &mut c.bytes),
             _ => panic!("no such call"),
         };

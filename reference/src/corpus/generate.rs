@@ -9,7 +9,6 @@ use super::calls::{
 use super::case::Case;
 use super::rng::Rng;
 use super::tables::{join, relr_bytes};
-use super::twin;
 use crate::leb::Kind::{self, Signed, Unsigned};
 
 const SEED: u64 = 0x5245_4C52_2D32_3031;
@@ -17,6 +16,9 @@ const ROUNDS: usize = 330;
 
 /// How many images with a start are drawn.
 const STARTS: usize = 120;
+
+/// How many tables of each kind with few padded numbers are drawn.
+const SHORTEST: usize = 80;
 
 /// The calls in the order of a round. A further call is drawn behind the rounds:
 /// among them it would change every case that follows.
@@ -63,9 +65,9 @@ pub fn sweeps() -> Vec<Named> {
     cases
 }
 
-/// Generated cases of every call, and a few long ones; then their twins.
+/// Generated cases of every call, and a few long ones.
 pub fn generated() -> Vec<Named> {
-    let mut build = Build { rng: &mut Rng::new(SEED), edges: false };
+    let mut build = Build { rng: &mut Rng::new(SEED), edges: false, padding: 6 };
     let mut cases = Vec::new();
     for round in 0..ROUNDS {
         let size = 1 + build.rng.index(12);
@@ -84,9 +86,7 @@ pub fn generated() -> Vec<Named> {
         let name = format!("relr_apply start, generated {round}");
         cases.push(Named { name, case: build.apply_anywhere(class, size) });
     }
-    let twin = |named: &Named| twin::named(&named.name, &named.case);
-    let twins: Vec<Named> = cases.iter().filter_map(twin).collect();
-    cases.extend(twins);
+    mostly_shortest(build.rng, &mut cases);
     cases
 }
 
@@ -126,6 +126,20 @@ fn long_apr1(build: &mut Build, cases: &mut Vec<Named>) {
         table.extend(pair.map(|value| build.number(Unsigned(32), value as i128)).concat());
     }
     long_reads(APR1_READ, 0, &table, cases);
+}
+
+/// Tables of numbers in their shortest form, but for one in forty where there are any
+/// others: a strict reader gets far in them.
+fn mostly_shortest(rng: &mut Rng, cases: &mut Vec<Named>) {
+    for round in 0..SHORTEST {
+        let (class, padding) = (rng.pick(&[4, 8]), rng.pick(&[0, 40]));
+        let size = 1 + rng.index(12);
+        let mut build = Build { rng, edges: true, padding };
+        for call in [APR1_READ, APA1_READ, RELLEB_READ] {
+            let name = format!("{} mostly shortest, generated {round}", Call::of(call).name);
+            cases.push(Named { name, case: build.case(call, class, size) });
+        }
+    }
 }
 
 fn one_of_each(build: &mut Build, size: usize, round: usize, cases: &mut Vec<Named>) {

@@ -2,17 +2,33 @@
 //! documents 01 and 02 by hand; the generator stops when an answer differs.
 
 use super::Named;
+use super::calls::Setting;
 use super::case::Case;
-use super::{hand_apa1, hand_apr1, hand_order, hand_relleb, hand_relr, twin};
+use super::{hand_apa1, hand_apr1, hand_order, hand_padding, hand_relleb, hand_relr, twin};
+
+/// Number, place and count.
+pub type Want = (u32, u64, u64);
 
 pub struct Hand {
     pub name: String,
     pub case: Case,
-    pub want: (u32, u64, u64),
+    pub want: Want,
+    /// What its strict twin answers, where that is another answer.
+    strictly: Option<Want>,
 }
 
-pub fn hand(name: &str, case: Case, want: (u32, u64, u64)) -> Hand {
-    Hand { name: name.to_string(), case, want }
+pub fn hand(name: &str, case: Case, want: Want) -> Hand {
+    Hand { name: name.to_string(), case, want, strictly: None }
+}
+
+impl Hand {
+    /// The case with another answer for its strict twin.
+    pub fn strictly(mut self, want: Want) -> Hand {
+        assert!(self.case.call().takes(Setting::Strict), "{} has no strict twin", self.name);
+        assert_ne!(self.want, want, "{}", self.name);
+        self.strictly = Some(want);
+        self
+    }
 }
 
 /// One case per room: enough room succeeds with `need`, less is refusal 9 with
@@ -34,10 +50,10 @@ pub fn cases() -> Vec<Named> {
     all().into_iter().map(named).collect()
 }
 
-/// The twin of a case, which has the same answer.
-fn twin(hand: &Hand) -> Option<Hand> {
-    let Named { name, case } = twin::named(&hand.name, &hand.case)?;
-    Some(Hand { name, case, want: hand.want })
+/// The twin of a case, which has the same answer unless another is told.
+fn twin(made: &Hand) -> Option<Hand> {
+    let Named { name, case } = twin::named(&made.name, &made.case)?;
+    Some(hand(&name, case, made.strictly.unwrap_or(made.want)))
 }
 
 /// A case without its answer.
@@ -51,6 +67,7 @@ pub fn all() -> Vec<Hand> {
     hands.extend(hand_apr1::all());
     hands.extend(hand_apa1::all());
     hands.extend(hand_relleb::all());
+    hands.extend(hand_padding::all());
     hands.extend(hand_order::all());
     let twins: Vec<Hand> = hands.iter().filter_map(twin).collect();
     hands.extend(twins);

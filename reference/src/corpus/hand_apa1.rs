@@ -3,7 +3,8 @@
 use super::calls::{APA1_READ, APA1_WRITE};
 use super::case::Case;
 use super::hand::{Hand, hand, rooms};
-use super::tables::join;
+use super::tables::{join, number};
+use crate::leb::Kind::Signed;
 
 /// Ten-byte forms of the least and the largest signed number of width 64.
 const LEAST: [u8; 10] = [0x80, 0x80, 0x80, 0x80, 0x80, 0x80, 0x80, 0x80, 0x80, 0x7F];
@@ -51,6 +52,8 @@ pub fn all() -> Vec<Hand> {
     hands.extend(read_numbers());
     hands.extend(read_columns());
     hands.extend(read_order());
+    hands.extend(read_padded());
+    hands.extend(read_shortest());
     hands.extend(write_accepted());
     hands.extend(write_refused());
     hands
@@ -62,7 +65,7 @@ fn read_accepted() -> Vec<Hand> {
     vec![
         hand("apa1_read empty, no room", read(&[&[0]], 0), (0, 0, 0)),
         hand("apa1_read empty, room", read(&[&[0]], 3), (0, 0, 0)),
-        hand("apa1_read padded 0", read(&[&ZERO], 0), (0, 0, 0)),
+        hand("apa1_read padded 0", read(&[&ZERO], 0), (0, 0, 0)).strictly((18, 4, 0)),
         hand("apa1_read L 64", read(&[&[0xC0, 0x00], &sixty_four], 64), (0, 0, 64)),
         hand("apa1_read L 64 short", read(&[&[0xC0, 0x00], &sixty_four], 63), (9, 0, 64)),
         hand("apa1_read L 63", read(&[&[0x3F], &sixty_four[..126]], 64), (0, 0, 63)),
@@ -71,7 +74,7 @@ fn read_accepted() -> Vec<Hand> {
         hand("apa1_read ends", read(&ends, 2), (0, 0, 2)),
         hand("apa1_read wrap addend", read(&[&[2, 0], &LARGEST, &[0, 1]], 2), (0, 0, 2)),
         hand("apa1_read wrap offset", read(&[&[2], &LEAST, &[0], &LEAST, &[0]], 2), (0, 0, 2)),
-        hand("apa1_read padded", read(&[&[1], &MINUS, &ZERO], 1), (0, 0, 1)),
+        hand("apa1_read padded", read(&[&[1], &MINUS, &ZERO], 1), (0, 0, 1)).strictly((18, 5, 0)),
         hand("apa1_read repeats", read(&[&[3, 4, 4, 0, 0, 0, 0]], 4), (0, 0, 3)),
     ]
 }
@@ -120,7 +123,8 @@ fn read_numbers() -> Vec<Hand> {
             hand(&named("addend"), read(&[&[1, 0], &bad], 4), (5, 15, 0)),
             hand(&named("second offset"), read(&[&[2, 0, 0], &bad], 4), (5, 16, 0)),
             hand(&named("second addend"), read(&[&[2, 0, 0, 0], &bad], 4), (5, 17, 0)),
-            hand(&named("addend behind padding"), read(&[&[1], &ZERO, &bad], 4), (5, 24, 0)),
+            hand(&named("addend behind padding"), read(&[&[1], &ZERO, &bad], 4), (5, 24, 0))
+                .strictly((18, 5, 0)),
         ]);
     }
     hands
@@ -163,6 +167,58 @@ fn read_order() -> Vec<Hand> {
         hand("apa1_read 8 of several", read(&[&[0], &[0x80; 5]], 2), (8, 5, 0)),
         hand("apa1_read 8 before 9", read(&[&I, &[0]], 0), (8, 10, 0)),
         hand("apa1_read 8 before 9, one short", read(&[&I, &LONG], 1), (8, 10, 0)),
+    ]
+}
+
+/// A padded number among faults, before and behind it.
+fn read_padded() -> Vec<Hand> {
+    let padded = table(&[&[0x80, 0]]);
+    vec![
+        hand("apa1_read 11 before 18", uneven(&padded, 1, 2), (11, 0, 0)),
+        hand("apa1_read 3 before 18", read_raw(b"APX1\x80\0", 4), (3, 0, 0)),
+        hand("apa1_read count 18 before 4", read(&[&[0x81, 0]], 4), (4, 6, 0)).strictly((18, 4, 0)),
+        hand("apa1_read offset 18 before 4", read(&[&[1, 0x80, 0]], 4), (4, 7, 0))
+            .strictly((18, 5, 0)),
+        hand("apa1_read addend 18 before 4", read(&[&[2, 0, 0x80, 0]], 4), (4, 8, 0))
+            .strictly((18, 6, 0)),
+        hand("apa1_read offset padded and cut", read(&[&[1, 0xFF, 0xFF]], 4), (4, 7, 0)),
+        hand("apa1_read count -64 padded", read(&[&[0xC0, 0x7F]], 4), (5, 4, 0)),
+        hand("apa1_read count -65", read(&[&[0xBF, 0x7F]], 4), (5, 4, 0)),
+        hand("apa1_read offset 18 before 5", read(&[&[1, 0x80, 0], &OVER], 4), (5, 16, 0))
+            .strictly((18, 5, 0)),
+        hand("apa1_read offset 5 before 18", read(&[&[1], &OVER, &[0x80, 0]], 4), (5, 14, 0)),
+        hand("apa1_read 18 before 8", read(&[&[0x80, 0, 9]], 4), (8, 6, 0)).strictly((18, 4, 0)),
+        hand("apa1_read 8 of a padded number", read(&[&[0, 0x80, 0]], 4), (8, 5, 0)),
+        hand("apa1_read 18 before 9", read(&[&[1, 0, 0x80, 0]], 0), (9, 0, 1)).strictly((18, 6, 0)),
+        hand("apa1_read 18 of the last", read(&[&[2, 4, 4, 4, 0x84, 0]], 2), (0, 0, 2))
+            .strictly((18, 8, 0)),
+        hand("apa1_read 18 of two", read(&[&[1, 0x84, 0, 0x84, 0]], 1), (0, 0, 1))
+            .strictly((18, 5, 0)),
+    ]
+}
+
+/// Numbers at the ends of their lengths, each in its shortest form: accepted in
+/// both settings, differences of zero too.
+fn read_shortest() -> Vec<Hand> {
+    let values = [
+        [63, 64],
+        [-64, -65],
+        [127, 128],
+        [-128, -129],
+        [8191, 8192],
+        [-8192, -8193],
+        [(1 << 62) - 1, 1 << 62],
+        [-1 << 62, (-1 << 62) - 1],
+        [i64::MAX as i128, i64::MIN as i128],
+        [0, 0],
+        [0, -1],
+        [1, 0],
+    ];
+    let values = values.concat().into_iter().flat_map(|value| number(Signed(64), value));
+    let values: Vec<u8> = values.collect();
+    vec![
+        hand("apa1_read shortest forms", read(&[&[12], &values], 12), (0, 0, 12)),
+        hand("apa1_read differences of zero", read(&[&[3, 0, 0, 7, 0, 0, 0]], 3), (0, 0, 3)),
     ]
 }
 

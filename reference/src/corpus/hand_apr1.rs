@@ -3,7 +3,8 @@
 use super::calls::{APR1_READ, APR1_WRITE};
 use super::case::Case;
 use super::hand::{Hand, hand, rooms};
-use super::tables::join;
+use super::tables::{join, number};
+use crate::leb::Kind::Unsigned;
 
 const LARGEST: u64 = 0xFFFF_FFFC;
 
@@ -46,6 +47,8 @@ pub fn all() -> Vec<Hand> {
     hands.extend(read_outside());
     hands.extend(read_counts());
     hands.extend(read_order());
+    hands.extend(read_padded());
+    hands.extend(read_shortest());
     hands.extend(write_accepted());
     hands.extend(write_refused());
     hands
@@ -54,9 +57,11 @@ pub fn all() -> Vec<Hand> {
 fn read_accepted() -> Vec<Hand> {
     vec![
         hand("apr1_read largest A", read(&[&[0], &MINUS4], 1), (0, 0, 1)),
-        hand("apr1_read all padded", read(&[&PADDED, &PADDED], 1), (0, 0, 1)),
-        hand("apr1_read padded N", read(&[&[0x81, 0x80, 0], &[8, 2, 4]], 3), (0, 0, 3)),
-        hand("apr1_read padded pair", read(&[&[1, 8], &[0x82, 0], &[0x84, 0x80, 0]], 3), (0, 0, 3)),
+        hand("apr1_read all padded", read(&[&PADDED, &PADDED], 1), (0, 0, 1)).strictly((18, 4, 0)),
+        hand("apr1_read padded N", read(&[&[0x81, 0x80, 0], &[8, 2, 4]], 3), (0, 0, 3))
+            .strictly((18, 4, 0)),
+        hand("apr1_read padded pair", read(&[&[1, 8], &[0x82, 0], &[0x84, 0x80, 0]], 3), (0, 0, 3))
+            .strictly((18, 6, 0)),
         hand("apr1_read C 0", read(&[&[1, 8, 0, 4]], 1), (0, 0, 1)),
         hand("apr1_read D 0", read(&[&[1, 8, 3, 0]], 4), (0, 0, 4)),
         hand("apr1_read C 0, D largest", read(&[&[1, 8, 0], &MINUS1], 1), (0, 0, 1)),
@@ -114,7 +119,8 @@ fn read_numbers() -> Vec<Hand> {
         hands.extend([
             hand(&named("N"), read(&[&bad, &[0]], 4), (5, 8, 0)),
             hand(&named("A"), read(&[&[0], &bad], 4), (5, 9, 0)),
-            hand(&named("A behind padding"), read(&[&PADDED, &bad], 4), (5, 13, 0)),
+            hand(&named("A behind padding"), read(&[&PADDED, &bad], 4), (5, 13, 0))
+                .strictly((18, 4, 0)),
             hand(&named("C"), read(&[&[1, 0], &bad, &[4]], 4), (5, 10, 0)),
             hand(&named("D"), read(&[&[1, 0, 1], &bad], 4), (5, 11, 0)),
             hand(&named("D of C 0"), read(&[&[1, 0, 0], &bad], 4), (5, 11, 0)),
@@ -128,13 +134,15 @@ fn read_outside() -> Vec<Hand> {
     vec![
         hand("apr1_read A 2^32-3", read(&[&[0], &MINUS3], 4), (7, 5, 0)),
         hand("apr1_read A 2^32-1", read(&[&[0], &MINUS1], 4), (7, 5, 0)),
-        hand("apr1_read A behind padded N", read(&[&[0x80, 0], &MINUS3], 4), (7, 6, 0)),
+        hand("apr1_read A behind padded N", read(&[&[0x80, 0], &MINUS3], 4), (7, 6, 0))
+            .strictly((18, 4, 0)),
         hand("apr1_read pair by 1", read(&[&[1], &MINUS8, &[1, 5]], 4), (7, 10, 0)),
         hand("apr1_read pair on its last", read(&[&[1], &MINUS8, &[2, 4]], 4), (7, 10, 0)),
         hand("apr1_read pair by 2s", read(&[&[1], &MINUS8, &[3, 2]], 9), (7, 10, 0)),
         hand("apr1_read one step too far", read(&[&[1, 0, 1], &MINUS3], 4), (7, 6, 0)),
         hand("apr1_read second pair", read(&[&[2, 0, 1, 4, 1], &MINUS1], 4), (7, 8, 0)),
-        hand("apr1_read padded C", read(&[&[1, 0, 0x81, 0], &MINUS1], 4), (7, 6, 0)),
+        hand("apr1_read padded C", read(&[&[1, 0, 0x81, 0], &MINUS1], 4), (7, 6, 0))
+            .strictly((18, 6, 0)),
         hand("apr1_read largest pair", read(&[&[1, 0], &MINUS1, &MINUS1], 4), (7, 6, 0)),
         hand("apr1_read largest C by 1", read(&[&[1, 0], &MINUS1, &[1]], 4), (7, 6, 0)),
     ]
@@ -177,6 +185,87 @@ fn read_order() -> Vec<Hand> {
         hand("apr1_read 8 behind A", read(&[&[0, 0, 0, 0]], 4), (8, 6, 0)),
         hand("apr1_read 8 before 9", read(&[&H, &[0x80]], 0), (8, 11, 0)),
         hand("apr1_read 8 before large 9", read(&[&[1, 0], &MINUS1, &[0, 0]], 4), (8, 12, 0)),
+    ]
+}
+
+/// A padded number among faults, before and behind it. An A outside the space takes
+/// all the bytes that it may have, so that it is never padded.
+fn read_padded() -> Vec<Hand> {
+    let late = [3, 0, 1, 4, 1, 8, 1, 0x84, 0];
+    let two = [1, 0x88, 0, 2, 0x84, 0];
+    vec![
+        hand("apr1_read 3 before 18", read_raw(b"APX1\x80\0\0", 4), (3, 0, 0)),
+        hand("apr1_read N 18 before 4", read(&[&[0x80, 0]], 4), (4, 6, 0)).strictly((18, 4, 0)),
+        hand("apr1_read A 18 before 4", read(&[&[1, 0x88, 0]], 4), (4, 7, 0)).strictly((18, 5, 0)),
+        hand("apr1_read C 18 before 4", read(&[&[1, 0, 0x81, 0]], 4), (4, 8, 0))
+            .strictly((18, 6, 0)),
+        hand("apr1_read D 18 before 4", read(&[&[2, 0, 1, 0x84, 0]], 4), (4, 9, 0))
+            .strictly((18, 7, 0)),
+        hand("apr1_read A padded and cut", read(&[&[0, 0x88, 0x80]], 4), (4, 7, 0)),
+        hand("apr1_read D padded and cut", read(&[&[1, 0, 1, 0x84, 0x80]], 4), (4, 9, 0)),
+        hand("apr1_read A 18 before 5", read(&[&[1, 0x88, 0], &LONG], 4), (5, 11, 0))
+            .strictly((18, 5, 0)),
+        hand("apr1_read C 18 before D 5", read(&[&[1, 0, 0x81, 0], &WIDE], 4), (5, 12, 0))
+            .strictly((18, 6, 0)),
+        hand("apr1_read N 5 before A 18", read(&[&WIDE, &[0x80, 0]], 4), (5, 8, 0)),
+        hand("apr1_read C 5 before D 18", read(&[&[1, 0], &LONG, &[0x84, 0]], 4), (5, 10, 0)),
+        hand("apr1_read A 7 before C 18", read(&[&[1], &MINUS3, &[0x81, 0, 4]], 4), (7, 5, 0)),
+        hand(
+            "apr1_read D 18 before pair's 7",
+            read(&[&[1], &MINUS4, &[1, 0x84, 0]], 4),
+            (7, 10, 0),
+        )
+        .strictly((18, 11, 0)),
+        hand(
+            "apr1_read C 18 before pair's 7",
+            read(&[&[1], &MINUS4, &[0x81, 0, 4]], 4),
+            (7, 10, 0),
+        )
+        .strictly((18, 10, 0)),
+        hand(
+            "apr1_read pair's 7 before 18",
+            read(&[&[2], &MINUS4, &[1, 4, 0x81, 0]], 4),
+            (7, 10, 0),
+        ),
+        hand("apr1_read 18 before 8", read(&[&[0x80, 0, 8, 9]], 4), (8, 7, 0)).strictly((18, 4, 0)),
+        hand("apr1_read 8 of a padded number", read(&[&[0, 8, 0x80, 0]], 4), (8, 6, 0)),
+        hand("apr1_read 18 before 9", read(&[&[1, 8, 2, 0x84, 0]], 2), (9, 0, 3))
+            .strictly((18, 7, 0)),
+        hand("apr1_read 18 of C 0", read(&[&[1, 8, 0x80, 0, 4]], 1), (0, 0, 1))
+            .strictly((18, 6, 0)),
+        hand("apr1_read 18 of D at C 0", read(&[&[1, 8, 0, 0x84, 0]], 1), (0, 0, 1))
+            .strictly((18, 7, 0)),
+        hand("apr1_read 18 of D 0", read(&[&[1, 8, 3, 0x80, 0]], 4), (0, 0, 4))
+            .strictly((18, 7, 0)),
+        hand("apr1_read 18 of the last D", read(&[&late], 4), (0, 0, 4)).strictly((18, 11, 0)),
+        hand("apr1_read 18 of two", read(&[&two], 3), (0, 0, 3)).strictly((18, 5, 0)),
+    ]
+}
+
+/// Numbers at the ends of their lengths, each in its shortest form, and a run that
+/// is split: accepted in both settings.
+fn read_shortest() -> Vec<Hand> {
+    let pairs = [
+        [0, 0x7F],
+        [0, 0x80],
+        [0, 0x3FFF],
+        [0, 0x4000],
+        [0, 0x1F_FFFF],
+        [0, 0x20_0000],
+        [0, 0xFFF_FFFF],
+        [0, 0x1000_0000],
+        [0, 0xFFFF_FFFF],
+        [0x7F, 0],
+        [0x80, 0],
+    ];
+    let pairs = pairs.concat().into_iter().flat_map(|value| number(Unsigned(32), value));
+    let pairs: Vec<u8> = pairs.collect();
+    let split = [4, 8, 1, 4, 0, 4, 1, 4, 1, 0];
+    vec![
+        hand("apr1_read shortest forms", read(&[&[11], &MINUS4, &pairs], 256), (0, 0, 256)),
+        hand("apr1_read 127 pairs", read(&[&[0x7F, 0], &[0; 254]], 1), (0, 0, 1)),
+        hand("apr1_read 128 pairs", read(&[&[0x80, 1, 0], &[0; 256]], 1), (0, 0, 1)),
+        hand("apr1_read split run, C 0, D 0", read(&[&split], 4), (0, 0, 4)),
     ]
 }
 

@@ -3,7 +3,8 @@
 use super::calls::{RELLEB_READ, RELLEB_WRITE};
 use super::case::Case;
 use super::hand::{Hand, hand, rooms};
-use super::tables::join;
+use super::tables::{join, number};
+use crate::leb::Kind::{Signed, Unsigned};
 
 const P: [u8; 9] = [0x02, 0x10, 0x81, 0x02, 0x7C, 0x7C, 0x08, 0x00, 0x03];
 
@@ -77,6 +78,9 @@ pub fn all() -> Vec<Hand> {
         hands.extend(read_numbers(class));
         hands.extend(read_columns(class));
         hands.extend(read_order(class));
+        hands.extend(read_padded(class));
+        hands.extend(read_zeros(class));
+        hands.extend(read_shortest(class));
         hands.extend(write_accepted(class));
         hands.extend(write_columns(class));
     }
@@ -103,6 +107,8 @@ fn classes() -> Vec<Hand> {
         hand("relleb_read 1 before 5", read(5, &[&LONG10], 2), (1, 0, 0)),
         hand("relleb_read 1 before 8", read(5, &[&P, &P], 2), (1, 0, 0)),
         hand("relleb_read 1 before 9", read(5, &[&P], 0), (1, 0, 0)),
+        hand("relleb_read 1 before 18", read(5, &[&[0x80, 0]], 0), (1, 0, 0)),
+        hand("relleb_read 1 before 19", read(5, &[&[1, 0, 0, 0x7F, 0]], 1), (1, 0, 0)),
     ]);
     hands
 }
@@ -110,22 +116,24 @@ fn classes() -> Vec<Hand> {
 fn read_accepted(class: u32) -> Vec<Hand> {
     let read = |pieces: &[&[u8]], room| read(class, pieces, room);
     let cases = [
-        ("empty, no room", read(&[&[0]], 0), (0, 0, 0)),
-        ("empty, room", read(&[&[0]], 2), (0, 0, 0)),
-        ("padded count", read(&[&low10(0)], 0), (0, 0, 0)),
-        ("zeros", read(&[&[1, 0, 0, 0]], 1), (0, 0, 1)),
-        ("symbol 0 with addend", read(&[&[1, 0, 0, 0x7F, 5]], 1), (0, 0, 1)),
-        ("zero difference", read(&[&[1, 0, 0, 0x7F, 0]], 1), (0, 0, 1)),
-        ("zero difference later", read(&[&[2, 0, 0, 0x7E, 5, 0, 0, 0x7D, 0]], 2), (0, 0, 2)),
-        ("addend stays", read(&[&[2, 1, 1, 0x7E, 0x7B, 1, 1, 7]], 2), (0, 0, 2)),
-        ("type down", read(&[&[2, 0, 5, 0, 0, 0x7B, 0]], 2), (0, 0, 2)),
-        ("type wraps", read(&[&[2, 0, 0x7F, 0, 0, 1, 0]], 2), (0, 0, 2)),
-        ("type least", read(&[&[1, 0], &low5(0x78), &[0]], 1), (0, 0, 1)),
-        ("type largest", read(&[&[1, 0], &high5(0x07), &[0]], 1), (0, 0, 1)),
-        ("symbol largest", read(&[&[1, 0, 0], &high5(0x0F)], 1), (0, 0, 1)),
-        ("symbol largest, addend", read(&[&[1, 0, 0], &low5(0x70), &[1]], 1), (0, 0, 1)),
-        ("symbol 2^31", read(&[&[1, 0, 0], &low5(0x08)], 1), (0, 0, 1)),
-        ("padded all", read(&[&[1], &low5(0), &low5(0), &high5(0x7F), &low5(0)], 1), (0, 0, 1)),
+        hand("empty, no room", read(&[&[0]], 0), (0, 0, 0)),
+        hand("empty, room", read(&[&[0]], 2), (0, 0, 0)),
+        hand("padded count", read(&[&low10(0)], 0), (0, 0, 0)).strictly((18, 0, 0)),
+        hand("zeros", read(&[&[1, 0, 0, 0]], 1), (0, 0, 1)),
+        hand("symbol 0 with addend", read(&[&[1, 0, 0, 0x7F, 5]], 1), (0, 0, 1)),
+        hand("zero difference", read(&[&[1, 0, 0, 0x7F, 0]], 1), (0, 0, 1)).strictly((19, 4, 0)),
+        hand("zero difference later", read(&[&[2, 0, 0, 0x7E, 5, 0, 0, 0x7D, 0]], 2), (0, 0, 2))
+            .strictly((19, 8, 0)),
+        hand("addend stays", read(&[&[2, 1, 1, 0x7E, 0x7B, 1, 1, 7]], 2), (0, 0, 2)),
+        hand("type down", read(&[&[2, 0, 5, 0, 0, 0x7B, 0]], 2), (0, 0, 2)),
+        hand("type wraps", read(&[&[2, 0, 0x7F, 0, 0, 1, 0]], 2), (0, 0, 2)),
+        hand("type least", read(&[&[1, 0], &low5(0x78), &[0]], 1), (0, 0, 1)),
+        hand("type largest", read(&[&[1, 0], &high5(0x07), &[0]], 1), (0, 0, 1)),
+        hand("symbol largest", read(&[&[1, 0, 0], &high5(0x0F)], 1), (0, 0, 1)),
+        hand("symbol largest, addend", read(&[&[1, 0, 0], &low5(0x70), &[1]], 1), (0, 0, 1)),
+        hand("symbol 2^31", read(&[&[1, 0, 0], &low5(0x08)], 1), (0, 0, 1)),
+        hand("padded all", read(&[&[1], &low5(0), &low5(0), &high5(0x7F), &low5(0)], 1), (0, 0, 1))
+            .strictly((18, 1, 0)),
     ];
     named("relleb_read", class, cases)
 }
@@ -144,15 +152,15 @@ fn read_cut(class: u32) -> Vec<Hand> {
 fn read_counts(class: u32) -> Vec<Hand> {
     let read = |pieces: &[&[u8]], room| read(class, pieces, room);
     let cases = [
-        ("count 2^64-1, none", read(&[&high10(1)], 2), (4, 10, 0)),
-        ("count 2^64-1, one", read(&[&high10(1), &[0, 0, 0]], 2), (4, 13, 0)),
-        ("count 2^63, none", read(&[&low10(1)], 2), (4, 10, 0)),
-        ("count 2^64", read(&[&low10(2)], 2), (5, 9, 0)),
-        ("count long", read(&[&LONG10], 2), (5, 9, 0)),
-        ("count -1", read(&[&high10(0x7F)], 2), (5, 9, 0)),
-        ("count cut", read(&[&LONG10[..9]], 2), (4, 9, 0)),
-        ("count 127, none", read(&[&[0x7F]], 2), (4, 1, 0)),
-        ("count 64, none", read(&[&[0x40]], 2), (4, 1, 0)),
+        hand("count 2^64-1, none", read(&[&high10(1)], 2), (4, 10, 0)),
+        hand("count 2^64-1, one", read(&[&high10(1), &[0, 0, 0]], 2), (4, 13, 0)),
+        hand("count 2^63, none", read(&[&low10(1)], 2), (4, 10, 0)),
+        hand("count 2^64", read(&[&low10(2)], 2), (5, 9, 0)),
+        hand("count long", read(&[&LONG10], 2), (5, 9, 0)),
+        hand("count -1", read(&[&high10(0x7F)], 2), (5, 9, 0)),
+        hand("count cut", read(&[&LONG10[..9]], 2), (4, 9, 0)),
+        hand("count 127, none", read(&[&[0x7F]], 2), (4, 1, 0)),
+        hand("count 64, none", read(&[&[0x40]], 2), (4, 1, 0)),
     ];
     named("relleb_read", class, cases)
 }
@@ -168,17 +176,17 @@ fn read_numbers(class: u32) -> Vec<Hand> {
     let to_last = to_last(class);
     let read = |pieces: &[&[u8]], room| read(class, pieces, room);
     let cases = [
-        ("offset long", read(&[&[1], &LONG10, &[0, 0]], 2), (5, 1 + to_last, 0)),
-        ("type long", read(&[&[1, 0], &LONG5, &[0]], 2), (5, 6, 0)),
-        ("type 2^31", read(&[&[1, 0], &low5(0x08), &[0]], 2), (5, 6, 0)),
-        ("type -2^31-1", read(&[&[1, 0], &high5(0x77), &[0]], 2), (5, 6, 0)),
-        ("symbol long", read(&[&[1, 0, 0], &LONG5], 2), (5, 7, 0)),
-        ("symbol 2^32", read(&[&[1, 0, 0], &low5(0x10)], 2), (5, 7, 0)),
-        ("symbol -2^32-1", read(&[&[1, 0, 0], &high5(0x6F), &[0]], 2), (5, 7, 0)),
-        ("addend long", read(&[&[1, 0, 0, 0x7F], &LONG10], 2), (5, 4 + to_last, 0)),
-        ("addend missing", read(&[&[1, 0, 0, 0x7F]], 2), (4, 4, 0)),
-        ("second type", read(&[&[2, 0, 0, 0, 9], &LONG5, &[0]], 2), (5, 9, 0)),
-        ("second addend", read(&[&[2, 0, 0, 0, 9, 0, 0x40], &LONG10], 2), (5, 7 + to_last, 0)),
+        hand("offset long", read(&[&[1], &LONG10, &[0, 0]], 2), (5, 1 + to_last, 0)),
+        hand("type long", read(&[&[1, 0], &LONG5, &[0]], 2), (5, 6, 0)),
+        hand("type 2^31", read(&[&[1, 0], &low5(0x08), &[0]], 2), (5, 6, 0)),
+        hand("type -2^31-1", read(&[&[1, 0], &high5(0x77), &[0]], 2), (5, 6, 0)),
+        hand("symbol long", read(&[&[1, 0, 0], &LONG5], 2), (5, 7, 0)),
+        hand("symbol 2^32", read(&[&[1, 0, 0], &low5(0x10)], 2), (5, 7, 0)),
+        hand("symbol -2^32-1", read(&[&[1, 0, 0], &high5(0x6F), &[0]], 2), (5, 7, 0)),
+        hand("addend long", read(&[&[1, 0, 0, 0x7F], &LONG10], 2), (5, 4 + to_last, 0)),
+        hand("addend missing", read(&[&[1, 0, 0, 0x7F]], 2), (4, 4, 0)),
+        hand("second type", read(&[&[2, 0, 0, 0, 9], &LONG5, &[0]], 2), (5, 9, 0)),
+        hand("second addend", read(&[&[2, 0, 0, 0, 9, 0, 0x40], &LONG10], 2), (5, 7 + to_last, 0)),
     ];
     named("relleb_read", class, cases)
 }
@@ -206,7 +214,8 @@ fn read_widths() -> Vec<Hand> {
             "relleb_read offset six bytes, 8",
             offset(8, &[0x80, 0x80, 0x80, 0x80, 0x80, 0]),
             (0, 0, 1),
-        ),
+        )
+        .strictly((18, 1, 0)),
         hand("relleb_read addend largest, 4", addend(4, &high5(7)), (0, 0, 1)),
         hand("relleb_read addend least, 4", addend(4, &low5(0x78)), (0, 0, 1)),
         hand("relleb_read addend 2^31, 4", addend(4, &low5(8)), (5, 8, 0)),
@@ -229,21 +238,21 @@ fn read_columns(class: u32) -> Vec<Hand> {
     let good = |rooms| uneven(class, &P, rooms);
     let bad = |table: &[u8]| uneven(class, table, [2, 2, 1, 2]);
     let cases = [
-        ("offsets longer", good([3, 2, 2, 2]), (11, 0, 0)),
-        ("types longer", good([2, 3, 2, 2]), (11, 0, 0)),
-        ("symbols longer", good([2, 2, 3, 2]), (11, 0, 0)),
-        ("addends longer", good([2, 2, 2, 3]), (11, 0, 0)),
-        ("offsets shorter", good([1, 2, 2, 2]), (11, 0, 0)),
-        ("no types", good([2, 0, 2, 2]), (11, 0, 0)),
-        ("no symbols", good([2, 2, 0, 2]), (11, 0, 0)),
-        ("no addends", good([2, 2, 2, 0]), (11, 0, 0)),
-        ("two and two", good([2, 2, 3, 3]), (11, 0, 0)),
-        ("all different", good([1, 2, 3, 4]), (11, 0, 0)),
-        ("11 before 4", bad(&[]), (11, 0, 0)),
-        ("11 before 5", bad(&LONG10), (11, 0, 0)),
-        ("11 before 8", bad(&[0, 0]), (11, 0, 0)),
-        ("11 before 9", good([0, 0, 0, 1]), (11, 0, 0)),
-        ("11, empty list", uneven(class, &[0], [0, 1, 0, 0]), (11, 0, 0)),
+        hand("offsets longer", good([3, 2, 2, 2]), (11, 0, 0)),
+        hand("types longer", good([2, 3, 2, 2]), (11, 0, 0)),
+        hand("symbols longer", good([2, 2, 3, 2]), (11, 0, 0)),
+        hand("addends longer", good([2, 2, 2, 3]), (11, 0, 0)),
+        hand("offsets shorter", good([1, 2, 2, 2]), (11, 0, 0)),
+        hand("no types", good([2, 0, 2, 2]), (11, 0, 0)),
+        hand("no symbols", good([2, 2, 0, 2]), (11, 0, 0)),
+        hand("no addends", good([2, 2, 2, 0]), (11, 0, 0)),
+        hand("two and two", good([2, 2, 3, 3]), (11, 0, 0)),
+        hand("all different", good([1, 2, 3, 4]), (11, 0, 0)),
+        hand("11 before 4", bad(&[]), (11, 0, 0)),
+        hand("11 before 5", bad(&LONG10), (11, 0, 0)),
+        hand("11 before 8", bad(&[0, 0]), (11, 0, 0)),
+        hand("11 before 9", good([0, 0, 0, 1]), (11, 0, 0)),
+        hand("11, empty list", uneven(class, &[0], [0, 1, 0, 0]), (11, 0, 0)),
     ];
     named("relleb_read", class, cases)
 }
@@ -252,17 +261,120 @@ fn read_order(class: u32) -> Vec<Hand> {
     let to_last = to_last(class);
     let read = |pieces: &[&[u8]], room| read(class, pieces, room);
     let cases = [
-        ("8", read(&[&P, &[0]], 2), (8, 9, 0)),
-        ("8 of an empty list", read(&[&[0, 0x80]], 2), (8, 1, 0)),
-        ("8 behind padded count", read(&[&[0x80, 0, 5]], 2), (8, 2, 0)),
-        ("8 before 9", read(&[&P, &[0]], 0), (8, 9, 0)),
-        ("8 before 9, one short", read(&[&P, &[0, 0]], 1), (8, 9, 0)),
-        ("4 before 9", read(&[&P[..8]], 0), (4, 8, 0)),
-        ("5 before 9", read(&[&[1, 0], &LONG5, &[0]], 0), (5, 6, 0)),
-        ("5 before 4", read(&[&[9, 0], &LONG5], 2), (5, 6, 0)),
-        ("5 type before 5 symbol", read(&[&[1, 0], &LONG5, &LONG5], 2), (5, 6, 0)),
-        ("5 offset before 5 type", read(&[&[1], &LONG10, &LONG5], 2), (5, 1 + to_last, 0)),
-        ("5 before 8", read(&[&[1, 0, 0], &LONG5, &[0, 0, 0]], 2), (5, 7, 0)),
+        hand("8", read(&[&P, &[0]], 2), (8, 9, 0)),
+        hand("8 of an empty list", read(&[&[0, 0x80]], 2), (8, 1, 0)),
+        hand("8 behind padded count", read(&[&[0x80, 0, 5]], 2), (8, 2, 0)).strictly((18, 0, 0)),
+        hand("8 before 9", read(&[&P, &[0]], 0), (8, 9, 0)),
+        hand("8 before 9, one short", read(&[&P, &[0, 0]], 1), (8, 9, 0)),
+        hand("4 before 9", read(&[&P[..8]], 0), (4, 8, 0)),
+        hand("5 before 9", read(&[&[1, 0], &LONG5, &[0]], 0), (5, 6, 0)),
+        hand("5 before 4", read(&[&[9, 0], &LONG5], 2), (5, 6, 0)),
+        hand("5 type before 5 symbol", read(&[&[1, 0], &LONG5, &LONG5], 2), (5, 6, 0)),
+        hand("5 offset before 5 type", read(&[&[1], &LONG10, &LONG5], 2), (5, 1 + to_last, 0)),
+        hand("5 before 8", read(&[&[1, 0, 0], &LONG5, &[0, 0, 0]], 2), (5, 7, 0)),
+    ];
+    named("relleb_read", class, cases)
+}
+
+/// A padded number among faults, before and behind it.
+fn read_padded(class: u32) -> Vec<Hand> {
+    let bad = uneven(class, &[0x80, 0], [2, 2, 1, 2]);
+    let to_last = to_last(class);
+    let read = |pieces: &[&[u8]], room| read(class, pieces, room);
+    let two = [1, 0, 0x81, 0, 0x82, 0];
+    let cases = [
+        hand("11 before 18", bad, (11, 0, 0)),
+        hand("count 18 before 4", read(&[&[0x81, 0]], 2), (4, 2, 0)).strictly((18, 0, 0)),
+        hand("offset 18 before 4", read(&[&[1, 0x80, 0]], 2), (4, 3, 0)).strictly((18, 1, 0)),
+        hand("type 18 before 4", read(&[&[1, 0, 0x80, 0]], 2), (4, 4, 0)).strictly((18, 2, 0)),
+        hand("symbol 18 before 4", read(&[&[2, 0, 0, 0x80, 0]], 2), (4, 5, 0)).strictly((18, 3, 0)),
+        hand("symbol -1 18 before 4", read(&[&[1, 0, 0, 0xFF, 0x7F]], 2), (4, 5, 0))
+            .strictly((18, 3, 0)),
+        hand("addend 18 before 4", read(&[&[2, 0, 0, 0x7F, 0x85, 0]], 2), (4, 6, 0))
+            .strictly((18, 4, 0)),
+        hand("type padded and cut", read(&[&[1, 0, 0x80, 0x80]], 2), (4, 4, 0)),
+        hand("addend padded and cut", read(&[&[1, 0, 0, 0x7F, 0x80]], 2), (4, 5, 0)),
+        hand("offset 18 before type 5", read(&[&[1, 0x80, 0], &LONG5], 2), (5, 7, 0))
+            .strictly((18, 1, 0)),
+        hand(
+            "symbol 18 before addend 5",
+            read(&[&[1, 0, 0, 0xFF, 0x7F], &LONG10], 2),
+            (5, 5 + to_last, 0),
+        )
+        .strictly((18, 3, 0)),
+        hand("type 5 before symbol 18", read(&[&[1, 0], &LONG5, &[0x80, 0]], 2), (5, 6, 0)),
+        hand("18 before 8", read(&[&[1, 0, 0, 0x83, 0, 9]], 2), (8, 5, 0)).strictly((18, 3, 0)),
+        hand("8 of a padded number", read(&[&[0, 0x80, 0]], 2), (8, 1, 0)),
+        hand("18 before 9", read(&[&[1, 0x80, 0, 0, 0]], 0), (9, 0, 1)).strictly((18, 1, 0)),
+        hand("18 of the last", read(&[&[2, 0, 0, 0, 0, 0, 0x83, 0]], 2), (0, 0, 2))
+            .strictly((18, 6, 0)),
+        hand("18 of two", read(&[&two], 1), (0, 0, 1)).strictly((18, 2, 0)),
+    ];
+    named("relleb_read", class, cases)
+}
+
+/// Addend differences of zero, and addends that come back by others.
+fn read_zeros(class: u32) -> Vec<Hand> {
+    let zero = [1, 0, 0, 0x7F, 0];
+    let bad = uneven(class, &zero, [2, 2, 1, 2]);
+    let to_last = to_last(class);
+    let read = |pieces: &[&[u8]], room| read(class, pieces, room);
+    // The least difference, twice: the second sum wraps to 0.
+    let least = if class == 4 { low5(0x78).to_vec() } else { low10(0x7F).to_vec() };
+    let wraps = [&[2, 0, 0, 0x7F], &least[..], &[0, 0, 0x7F], &least];
+    let later = [2, 0, 0, 0x7E, 5, 0, 0, 0x7D];
+    let cases = [
+        hand("11 before 19", bad, (11, 0, 0)),
+        hand("19 before 4", read(&[&[2, 0, 0, 0x7F, 0]], 2), (4, 5, 0)).strictly((19, 4, 0)),
+        hand("19 before 5", read(&[&[2, 0, 0, 0x7F, 0], &LONG10], 2), (5, 5 + to_last, 0))
+            .strictly((19, 4, 0)),
+        hand("19 before 8", read(&[&zero, &[9]], 2), (8, 5, 0)).strictly((19, 4, 0)),
+        hand("19 before 9", read(&[&zero], 0), (9, 0, 1)).strictly((19, 4, 0)),
+        hand("19 before 18", read(&[&[2, 0, 0, 0x7F, 0, 0x80, 0, 0, 0]], 2), (0, 0, 2))
+            .strictly((19, 4, 0)),
+        hand("18 before 19", read(&[&[1, 0, 0, 0xFF, 0x7F, 0]], 1), (0, 0, 1)).strictly((18, 3, 0)),
+        hand("18 of a zero difference", read(&[&zero[..4], &[0x80, 0]], 1), (0, 0, 1))
+            .strictly((18, 4, 0)),
+        hand("18 of a zero difference later", read(&[&later, &[0x80, 0]], 2), (0, 0, 2))
+            .strictly((18, 8, 0)),
+        hand("19 of two", read(&[&[2, 0, 0, 0x7F, 0, 0, 0, 0x7F, 0]], 2), (0, 0, 2))
+            .strictly((19, 4, 0)),
+        hand("19 behind a same addend", read(&[&[2, 0, 0, 0, 0, 0, 0x7F, 0]], 2), (0, 0, 2))
+            .strictly((19, 7, 0)),
+        hand("19, largest symbol", read(&[&[1, 0, 0], &low5(0x70), &[0]], 1), (0, 0, 1))
+            .strictly((19, 8, 0)),
+        hand("addend back to 0", read(&[&[2, 0, 0, 0x7F, 5, 0, 0, 0x7F, 0x7B]], 2), (0, 0, 2)),
+        hand("addend wraps to 0", read(&wraps, 2), (0, 0, 2)),
+        hand("zeros but the addends", read(&[&[2, 0, 0, 0x7F, 1, 0, 0, 0x7F, 1]], 2), (0, 0, 2)),
+    ];
+    named("relleb_read", class, cases)
+}
+
+/// Numbers at the ends of their lengths, each in its shortest form: accepted in
+/// both settings.
+fn read_shortest(class: u32) -> Vec<Hand> {
+    let (bits, power) = (8 * class, |exponent: u32| 1i128 << exponent);
+    let largest = power(bits) - 1;
+    let offsets = [127, 128, 16_383, 16_384, power(28) - 1, power(28), largest / 2, largest, 0, 1];
+    let types = [63, 64, -64, -65, 8191, 8192, -8192, -8193, power(31) - 1, -power(31)];
+    let least = -power(bits - 1);
+    let addends = [63, 64, -64, -65, 8191, 8192, -8192, -8193, -1 - least, least];
+    let fields = [-1, -64, -65, -8192, -8193, -power(27), -power(27) - 1, -power(32), -2, -3];
+    let fields = [&fields[..], &[0, 63, 64, 8191, 8192, power(32) - 1]].concat();
+    let mut records = Vec::new();
+    for (index, field) in fields.into_iter().enumerate() {
+        records.extend(number(Unsigned(bits), offsets[index % 10]));
+        records.extend(number(Signed(32), types[index % 10]));
+        records.extend(number(Signed(33), field));
+        if field < 0 {
+            records.extend(number(Signed(bits), addends[index]));
+        }
+    }
+    let read = |pieces: &[&[u8]], room| read(class, pieces, room);
+    let cases = [
+        hand("shortest forms", read(&[&[16], &records], 16), (0, 0, 16)),
+        hand("127 records", read(&[&[0x7F], &[0; 381]], 127), (0, 0, 127)),
+        hand("128 records", read(&[&[0x80, 1], &[0; 384]], 128), (0, 0, 128)),
     ];
     named("relleb_read", class, cases)
 }
@@ -331,18 +443,18 @@ fn write_columns(class: u32) -> Vec<Hand> {
         write(class, list, room)
     };
     let cases = [
-        ("offsets longer", make([3, 2, 2, 2], 1, 1, 99), (11, 0, 0)),
-        ("types longer", make([2, 3, 2, 2], 1, 1, 99), (11, 0, 0)),
-        ("symbols longer", make([2, 2, 3, 2], 1, 1, 99), (11, 0, 0)),
-        ("addends longer", make([2, 2, 2, 3], 1, 1, 99), (11, 0, 0)),
-        ("no types", make([2, 0, 2, 2], 1, 1, 99), (11, 0, 0)),
-        ("no symbols", make([2, 2, 0, 2], 1, 1, 99), (11, 0, 0)),
-        ("no addends", make([2, 2, 2, 0], 1, 1, 99), (11, 0, 0)),
-        ("no offsets", make([0, 2, 2, 2], 1, 1, 99), (11, 0, 0)),
-        ("two and two", make([1, 1, 2, 2], 1, 1, 99), (11, 0, 0)),
-        ("11 before 7", make([2, 2, 2, 1], 1 << 32, 1, 99), (11, 0, 0)),
-        ("11 before 14", make([2, 2, 1, 2], 1, 1 << 40, 99), (11, 0, 0)),
-        ("11 before 9", make([2, 1, 2, 2], 1, 1, 0), (11, 0, 0)),
+        hand("offsets longer", make([3, 2, 2, 2], 1, 1, 99), (11, 0, 0)),
+        hand("types longer", make([2, 3, 2, 2], 1, 1, 99), (11, 0, 0)),
+        hand("symbols longer", make([2, 2, 3, 2], 1, 1, 99), (11, 0, 0)),
+        hand("addends longer", make([2, 2, 2, 3], 1, 1, 99), (11, 0, 0)),
+        hand("no types", make([2, 0, 2, 2], 1, 1, 99), (11, 0, 0)),
+        hand("no symbols", make([2, 2, 0, 2], 1, 1, 99), (11, 0, 0)),
+        hand("no addends", make([2, 2, 2, 0], 1, 1, 99), (11, 0, 0)),
+        hand("no offsets", make([0, 2, 2, 2], 1, 1, 99), (11, 0, 0)),
+        hand("two and two", make([1, 1, 2, 2], 1, 1, 99), (11, 0, 0)),
+        hand("11 before 7", make([2, 2, 2, 1], 1 << 32, 1, 99), (11, 0, 0)),
+        hand("11 before 14", make([2, 2, 1, 2], 1, 1 << 40, 99), (11, 0, 0)),
+        hand("11 before 9", make([2, 1, 2, 2], 1, 1, 0), (11, 0, 0)),
     ];
     named("relleb_write", class, cases)
 }
@@ -393,14 +505,10 @@ fn write_order() -> Vec<Hand> {
     ]
 }
 
-fn named<const N: usize>(
-    call: &str,
-    class: u32,
-    cases: [(&str, Case, (u32, u64, u64)); N],
-) -> Vec<Hand> {
-    let mut hands = Vec::new();
-    for (name, case, want) in cases {
-        hands.push(hand(&format!("{call} class {class} {name}"), case, want));
+/// The cases with the call and the class in front of their names.
+fn named<const N: usize>(call: &str, class: u32, mut cases: [Hand; N]) -> Vec<Hand> {
+    for case in &mut cases {
+        case.name = format!("{call} class {class} {}", case.name);
     }
-    hands
+    cases.into()
 }

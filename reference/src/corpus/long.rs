@@ -7,14 +7,14 @@ use super::calls::{
     RELR_READ, RELR_WRITE, Setting, Shape,
 };
 use super::case::Case;
-use super::hand::{Hand, hand, named};
-use super::twin::BIG;
+use super::hand::{Hand, Want, hand, named};
+use super::twin::ending;
 use crate::{MOST_INPUT, MOST_LIST};
 
-const LIMIT: (u32, u64, u64) = (2, 0, 0);
+const LIMIT: Want = (2, 0, 0);
 
 /// Each call with its class and the answer at the limit.
-const AT_LIMIT: [(u8, u32, (u32, u64, u64)); 14] = [
+const AT_LIMIT: [(u8, u32, Want); 14] = [
     // A zero word is the address 0; identifiers are missing; RELLEB's count is
     // 0, and its table ends behind it.
     (RELR_READ, 4, (9, 0, MOST_INPUT as u64 / 4)),
@@ -40,25 +40,27 @@ pub fn cases() -> impl Iterator<Item = Named> {
     all().map(named)
 }
 
-/// Each call at the limit and one over it, which is refusal 2; then those that take
-/// the byte order as big-endian ones. A case is made when its turn comes: all at
-/// once would take gigabytes.
+/// Each call at the limit and one over it, which is refusal 2; then the twins. A
+/// case is made when its turn comes: all at once would take gigabytes.
 pub fn all() -> impl Iterator<Item = Hand> {
-    let ordered = AT_LIMIT.iter().filter(|(call, ..)| Call::of(*call).takes(Setting::Order));
-    let rows = AT_LIMIT.iter().map(|row| (row, false)).chain(ordered.map(|row| (row, true)));
-    rows.flat_map(|(&(call, class, want), big)| {
+    let twins = AT_LIMIT.iter().filter(|(call, ..)| ending(Call::of(*call)).is_some());
+    let rows = AT_LIMIT.iter().map(|row| (row, false)).chain(twins.map(|row| (row, true)));
+    rows.flat_map(|(&(call, class, want), twin)| {
         let answers = [(0, want), (1, LIMIT)].into_iter();
-        answers.map(move |(over, want)| beyond(call, class, big, over, want))
+        answers.map(move |(over, want)| beyond(call, class, twin, over, want))
     })
 }
 
 /// Zeros, so many over the call's limit. No byte of the input or of the image
-/// differs from the others, so that a twin has the same ones.
-fn beyond(call: u8, class: u32, big: bool, over: usize, want: (u32, u64, u64)) -> Hand {
-    let write = Call::of(call).shape == Shape::Write;
-    let length = over + if write { MOST_LIST } else { MOST_INPUT };
-    let name = format!("{length} zeros{}", if big { BIG } else { "" });
-    hand(&name, Case { big, ..zeros(call, class, length) }, want)
+/// differs from the others, so that a big-endian twin has the same ones; and no
+/// number of the input is padded, so that a strict twin has the same answer.
+fn beyond(call: u8, class: u32, twin: bool, over: usize, want: Want) -> Hand {
+    let row = Call::of(call);
+    let length = over + if row.shape == Shape::Write { MOST_LIST } else { MOST_INPUT };
+    let ending = ending(row).filter(|_| twin).unwrap_or_default();
+    let [big, strict] = [Setting::Order, Setting::Strict].map(|on| twin && row.takes(on));
+    let case = Case { big, strict, ..zeros(call, class, length) };
+    hand(&format!("{length} zeros{ending}"), case, want)
 }
 
 fn zeros(call: u8, class: u32, length: usize) -> Case {

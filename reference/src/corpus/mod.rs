@@ -1,5 +1,6 @@
 //! The corpus: calls with the answers expected of them.
 
+pub mod again;
 pub mod build;
 mod build_lists;
 mod build_tables;
@@ -10,6 +11,7 @@ pub mod hand;
 pub mod hand_apa1;
 pub mod hand_apr1;
 pub mod hand_order;
+pub mod hand_padding;
 pub mod hand_relleb;
 pub mod hand_relr;
 pub mod long;
@@ -28,11 +30,10 @@ pub struct Named {
 }
 
 /// The cases of the corpus but the long ones, in the order of the file:
-/// hand-made, then swept, then generated. Twins stand behind the hand-made and
-/// behind the generated ones.
+/// hand-made, then swept, then generated, each of them with their twins behind.
 pub fn all() -> Vec<Named> {
     let mut cases = hand::cases();
-    cases.extend(generate::sweeps());
-    cases.extend(generate::generated());
+    cases.extend(twin::with_twins(generate::sweeps()));
+    cases.extend(twin::with_twins(generate::generated()));
     cases
 }

@@ -1,6 +1,9 @@
 //! Byte forms for making tables, also such as the writers never make.
 
-use crate::leb::{self, Kind};
+use crate::leb::Kind;
+
+/// A number in its shortest form.
+pub use crate::leb::shortest as number;
 
 /// The bytes of a RELR word: eight for a bad class.
 fn word_size(class: u32) -> usize {
@@ -21,17 +24,6 @@ pub fn turned(class: u32, bytes: &[u8]) -> Vec<u8> {
     let mut turned = bytes.to_vec();
     turned.chunks_exact_mut(word_size(class)).for_each(<[u8]>::reverse);
     turned
-}
-
-/// A number in its shortest form.
-pub fn number(kind: Kind, value: i128) -> Vec<u8> {
-    let mut bytes = Vec::new();
-    if kind.signed() {
-        leb::write_signed(value as i64, &mut bytes);
-    } else {
-        leb::write_unsigned(value as u64, &mut bytes);
-    }
-    bytes
 }
 
 /// A number with up to `more` bytes of padding, inside its allowed length.

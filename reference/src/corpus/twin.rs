@@ -1,15 +1,24 @@
-//! RELR cases again, with words of the other byte order.
+//! Cases again with a setting of their call on: RELR's with big-endian words, and
+//! the reads of LEB128 numbers strictly. No call takes both settings.
 
 use super::Named;
-use super::calls::{RELR_READ, Setting, Shape};
+use super::calls::{Call, RELR_READ, Setting, Shape};
 use super::case::Case;
 use super::tables::turned;
 
-/// What the name of a twin ends with.
-pub const BIG: &str = ", big-endian";
+/// What a twin's name ends with, by the setting that is on.
+const ENDINGS: [(Setting, &str); 2] =
+    [(Setting::Order, ", big-endian"), (Setting::Strict, ", strict")];
 
-/// A little-endian case with the words of its table and of its image big-endian,
-/// so that it means the same; none where the call takes no byte order.
+/// What the names of a call's twins end with; nothing where it has none.
+pub fn ending(call: &Call) -> Option<&'static str> {
+    let taken = ENDINGS.iter().find(|(setting, _)| call.takes(*setting));
+    taken.map(|(_, ending)| *ending)
+}
+
+/// The twin of a case; none where the call takes neither setting. A big-endian one
+/// has the words of its table and of its image turned, so that it means the same. A
+/// strict one has the same table, and may be refused where the case isn't.
 pub fn twin(case: &Case) -> Option<Case> {
     let twin = table_twin(case)?;
     Some(match case.call().shape {
@@ -20,7 +29,10 @@ pub fn twin(case: &Case) -> Option<Case> {
 
 /// The twin of a case whose image is the same in both orders.
 pub fn table_twin(case: &Case) -> Option<Case> {
-    assert!(!case.big, "a twin has none");
+    assert!(!case.is_twin(), "a twin has none");
+    if case.call().takes(Setting::Strict) {
+        return Some(Case { strict: true, ..case.clone() });
+    }
     if !case.call().takes(Setting::Order) {
         return None;
     }
@@ -30,7 +42,16 @@ pub fn table_twin(case: &Case) -> Option<Case> {
 
 /// A twin with its name.
 pub fn named(name: &str, case: &Case) -> Option<Named> {
-    Some(Named { name: format!("{name}{BIG}"), case: twin(case)? })
+    let ending = ending(case.call())?;
+    Some(Named { name: format!("{name}{ending}"), case: twin(case)? })
+}
+
+/// Cases with their twins behind them.
+pub fn with_twins(mut cases: Vec<Named>) -> Vec<Named> {
+    let twin = |case: &Named| named(&case.name, &case.case);
+    let twins: Vec<Named> = cases.iter().filter_map(twin).collect();
+    cases.extend(twins);
+    cases
 }
 
 /// The image with each word turned that the call changes. It stays as it is where

@@ -1,11 +1,11 @@
 //! Whole tables that the library's writers made, damaged once.
 
 use crate::by_library;
-use crate::generate::in_some_order;
+use crate::generate::in_some_setting;
 use reference::corpus::build::Build;
 use reference::corpus::calls::{
     APA1_READ, APA1_WRITE, APR1_READ, APR1_WRITE, RELLEB_READ, RELLEB_WRITE, RELR_APPLY, RELR_READ,
-    RELR_WRITE,
+    RELR_WRITE, Setting,
 };
 use reference::corpus::case::{Case, FILL};
 use reference::corpus::rng::Rng;
@@ -44,7 +44,8 @@ impl Damage {
 }
 
 /// A reading call on a whole table that the library wrote, which is damaged
-/// where so told; none for a call without such tables.
+/// where so told; half of those that may be strict are. None for a call without such
+/// tables.
 pub fn whole(
     build: &mut Build,
     call: u8,
@@ -64,7 +65,8 @@ pub fn whole(
         RELR_APPLY => build.applied(class, &table),
         _ => build.lend(Case::read_into(call, class, &table, 0)),
     };
-    if big { twin(&case) } else { Some(case) }
+    let strict = case.call().takes(Setting::Strict) && build.rng.once_in(2);
+    if big || strict { twin(&case) } else { Some(case) }
 }
 
 /// The writer of the tables that a call takes.
@@ -83,7 +85,7 @@ fn writer(call: u8) -> Option<u8> {
 fn written(build: &mut Build, writer: u8, class: u32, size: usize) -> Case {
     loop {
         let list = build.list(writer, class, size);
-        let mut list = in_some_order(build.rng, list);
+        let mut list = in_some_setting(build.rng, list);
         if let Err(Refusal { number: 9, need, .. }) = by_library(&list).result {
             list.bytes = vec![FILL; need as usize];
             return by_library(&list).after;

@@ -1,6 +1,6 @@
 //! Cases from random numbers: the reference's builders with all their edges,
-//! any class, both byte orders, columns of unequal lengths, and the library's own
-//! tables.
+//! any class, both byte orders, lax and strict, columns of unequal lengths, and the
+//! library's own tables.
 
 use crate::damage::{DAMAGES, Damage, whole};
 use reference::corpus::build::Build;
@@ -16,7 +16,8 @@ pub struct Made {
 }
 
 /// One in four of the reads and applies has a damaged table of the library, one
-/// in eight a whole one.
+/// in eight a whole one. Of the others that hold LEB128 numbers some have no padded
+/// ones, some have few and some have many.
 pub fn case(rng: &mut Rng) -> Made {
     let call = rng.index(CALLS.len()) as u8;
     let class = rng.pick(&[4, 8]);
@@ -27,7 +28,8 @@ pub fn case(rng: &mut Rng) -> Made {
     };
     let share = rng.below(8);
     let damage = (share < 2).then(|| rng.pick(&DAMAGES).0);
-    let mut build = Build { rng, edges: true };
+    let padding = rng.pick(&[0, 6, 40]);
+    let mut build = Build { rng, edges: true, padding };
     if share < 3
         && let Some(case) = whole(&mut build, call, class, size, damage)
     {
@@ -40,11 +42,11 @@ pub fn case(rng: &mut Rng) -> Made {
     if rng.once_in(16) {
         uneven(rng, &mut case);
     }
-    Made { case: in_some_order(rng, case), damage: None }
+    Made { case: in_some_setting(rng, case), damage: None }
 }
 
-/// A little-endian case, or its twin; each half of the time.
-pub fn in_some_order(rng: &mut Rng, case: Case) -> Case {
+/// A case, or its twin, which is big-endian or strict; each half of the time.
+pub fn in_some_setting(rng: &mut Rng, case: Case) -> Case {
     if rng.once_in(2)
         && let Some(twin) = twin(&case)
     {

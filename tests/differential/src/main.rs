@@ -1,14 +1,19 @@
 //! Compares every call of the library with the reference on random cases for a
 //! bounded time: `differential [--seconds N] [--seed S]`. The cases follow from
-//! the seed, which is printed first. At its end it prints how many of each call and
-//! byte order ended in each number, how many had a damaged table of the library's
-//! writers, and how many there were.
+//! the seed, which is printed first. A table of APA1 or RELLEB that is accepted
+//! strictly is written again, which must give the same bytes. At its end it prints
+//! how many of each call, byte order and setting ended in each number, how many had
+//! a damaged table of the library's writers, how many tables were written again, and
+//! how many cases there were.
 
 use differential::damage::DAMAGES;
 use differential::generate::{self, Made};
-use differential::{by_library, by_reference};
-use reference::corpus::calls::{CALLS, NUMBERS, Setting};
+use differential::{Run, by_library, by_reference};
+use reference::corpus::again::again;
+use reference::corpus::calls::{CALLS, NUMBERS};
+use reference::corpus::case::Case;
 use reference::corpus::rng::Rng;
+use reference::corpus::twin::ending;
 use std::process::ExitCode;
 use std::time::{Duration, Instant, SystemTime, UNIX_EPOCH};
 
@@ -22,38 +27,55 @@ fn main() -> ExitCode {
     let mut rng = Rng::new(seed);
     let mut seen = vec![[[0u64; NUMBERS]; 2]; CALLS.len()];
     let mut damaged = [0u64; DAMAGES.len()];
-    let mut cases = 0u64;
+    let (mut cases, mut rewritten) = (0u64, 0u64);
     while Instant::now() < end {
         let Made { case, damage } = generate::case(&mut rng);
-        let (want, got) = (by_reference(&case), by_library(&case));
-        if want != got {
-            println!("difference in case {cases}, {}: {case:02x?}", case.call().name);
-            for (name, run) in [("reference", want), ("library", got)] {
-                println!("{name}: {:?}, kept inside the buffers: {}", run.result, run.inside);
-                println!("{name} leaves {:02x?}", run.after);
-            }
+        let Some(run) = compared(&case) else {
+            println!("in case {cases}");
             return ExitCode::FAILURE;
-        }
-        let number = want.result.err().map_or(0, |refusal| refusal.number);
-        seen[case.call as usize][case.big as usize][number as usize] += 1;
+        };
+        let number = run.result.err().map_or(0, |refusal| refusal.number);
+        seen[case.call as usize][case.is_twin() as usize][number as usize] += 1;
         if let Some(damage) = damage {
             damaged[damage as usize] += 1;
+        }
+        if let Some(write) = again(&case) {
+            if compared(&write).is_none_or(|run| run.after.bytes != case.input) {
+                println!("another table than in case {cases}: {case:02x?}");
+                return ExitCode::FAILURE;
+            }
+            rewritten += 1;
         }
         cases += 1;
     }
     print_seen(&seen);
     let damaged = DAMAGES.iter().zip(damaged).map(|((_, name), count)| format!("{name} {count}"));
     println!("writers' tables damaged: {}", damaged.collect::<Vec<_>>().join(", "));
+    println!("strict tables written again: {rewritten}");
     println!("{cases} cases, no difference");
     ExitCode::SUCCESS
 }
 
-/// How many cases of each call and byte order ended in each number.
+/// What both do with a case. Where they differ it is printed, and nothing is given.
+fn compared(case: &Case) -> Option<Run> {
+    let (want, got) = (by_reference(case), by_library(case));
+    if want == got {
+        return Some(got);
+    }
+    println!("difference, {}: {case:02x?}", case.call().name);
+    for (name, run) in [("reference", want), ("library", got)] {
+        println!("{name}: {:?}, kept inside the buffers: {}", run.result, run.inside);
+        println!("{name} leaves {:02x?}", run.after);
+    }
+    None
+}
+
+/// How many cases of each call ended in each number, and of its twins.
 fn print_seen(seen: &[[[u64; NUMBERS]; 2]]) {
-    for (call, [little, big]) in CALLS.iter().zip(seen) {
-        print_row(call.name, little);
-        if call.takes(Setting::Order) {
-            print_row(&format!("{}, big-endian", call.name), big);
+    for (call, [firsts, twins]) in CALLS.iter().zip(seen) {
+        print_row(call.name, firsts);
+        if let Some(ending) = ending(call) {
+            print_row(&format!("{}{ending}", call.name), twins);
         }
     }
 }

@@ -2,9 +2,12 @@
 //! edge.
 
 use differential::{by_library, by_reference, generate};
-use reference::corpus::calls::{APR1_READ, CALLS, RELR_APPLY, RELR_READ, Setting};
+use reference::corpus::calls::{
+    APA1_READ, APR1_READ, CALLS, Call, RELLEB_READ, RELR_APPLY, RELR_READ, Setting,
+};
 use reference::corpus::case::Case;
 use reference::corpus::rng::Rng;
+use reference::corpus::twin::ending;
 use reference::corpus::{all, long};
 use reloc::{Kind, Refusal};
 use std::collections::HashSet;
@@ -24,37 +27,79 @@ fn every_refusal_has_a_name() {
     }
 }
 
-/// All but 2, which needs the lengths of the long cases; in both byte orders where
-/// the call takes them.
+/// All but 2, which needs the lengths of the long cases; of the twins too where a
+/// call has them, in the other byte order or strict.
 #[test]
 fn every_refusal_is_met() {
     let mut rng = Rng::new(1);
     let mut seen = HashSet::new();
     for _ in 0..20_000 {
         let case = generate::case(&mut rng).case;
-        seen.insert((case.call().name, case.big, case.run().0.number));
+        seen.insert((case.call().name, case.is_twin(), case.run().0.number));
     }
     for call in CALLS {
-        for number in call.refusals.iter().filter(|number| **number != 2) {
-            for big in [false, call.takes(Setting::Order)] {
-                let met = seen.contains(&(call.name, big, *number));
-                assert!(met, "{} never met {number}, big-endian {big}", call.name);
+        for twin in [false, ending(call).is_some()] {
+            let strict = twin && call.takes(Setting::Strict);
+            for number in call.refusals.iter().filter(|n| **n != 2 && call.allows(strict, **n)) {
+                let met = seen.contains(&(call.name, twin, *number));
+                assert!(met, "{} never met {number}, twin {twin}", call.name);
             }
         }
     }
 }
 
-/// Eleven edges; all but the one of APR1 in both byte orders.
+/// 18, and 19 of RELLEB, come where lax reading accepts, and before each refusal
+/// that it has further on.
+#[test]
+fn every_answer_gives_way() {
+    let mut rng = Rng::new(1);
+    let mut seen = HashSet::new();
+    for _ in 0..20_000 {
+        let case = generate::case(&mut rng).case;
+        if case.strict {
+            let lax = Case { strict: false, ..case.clone() };
+            seen.insert((case.call, case.run().0.number, lax.run().0.number));
+        }
+    }
+    let given: [(u8, u32, &[u32]); 4] = [
+        (APR1_READ, 18, &[0, 4, 5, 7, 8, 9]),
+        (APA1_READ, 18, &[0, 4, 5, 8, 9]),
+        (RELLEB_READ, 18, &[0, 4, 5, 8, 9]),
+        (RELLEB_READ, 19, &[0, 4, 5, 8, 9]),
+    ];
+    for (call, number, ways) in given {
+        for lax in ways {
+            let met = seen.contains(&(call, number, *lax));
+            assert!(met, "{} never {number} for {lax}", Call::of(call).name);
+        }
+    }
+}
+
+/// Fourteen edges: ten of RELR, in both byte orders; one of APR1, in both settings;
+/// three of strictness.
 #[test]
 fn every_edge_is_met() {
     let mut rng = Rng::new(1);
     let mut met = HashSet::new();
-    for _ in 0..20_000 {
+    for _ in 0..100_000 {
         let case = generate::case(&mut rng).case;
-        met.extend(edge(&case).map(|edge| (edge, case.big)));
-        met.extend(edge_of_a_start(&case).map(|edge| (edge, case.big)));
+        let edges = [edge(&case), edge_of_a_start(&case), edge_of_strictness(&case)];
+        met.extend(edges.into_iter().flatten().map(|edge| (edge, case.is_twin())));
     }
-    assert_eq!(met.len(), 21, "{met:?}");
+    assert_eq!(met.len(), 25, "{met:?}");
+}
+
+/// The edge of a strict case, if any.
+fn edge_of_strictness(case: &Case) -> Option<&'static str> {
+    let lax = Case { strict: false, ..case.clone() }.run().0;
+    let strict = case.run().0;
+    match (case.call, strict.number) {
+        _ if !case.strict => None,
+        (APR1_READ, 18) if lax.number == 7 && strict.place > lax.place => Some("D before 7 of C"),
+        (APA1_READ, 5) if strict.place == 4 && case.input[4] >= 0x80 => Some("negative count"),
+        (RELLEB_READ, 19) if strict.place > 20 => Some("zero difference later"),
+        _ => None,
+    }
 }
 
 /// The edge that the start of a case's image meets, if any.

@@ -7,9 +7,9 @@ use reference::corpus::calls::{APA1_READ, APR1_READ, RELLEB_READ, RELR_APPLY, RE
 use reference::corpus::rng::Rng;
 use std::collections::HashSet;
 
-/// The calls that take tables, with their classes, and whether words are
-/// big-endian.
-const READERS: [(u8, u32, bool); 12] = [
+/// The calls that take tables, with their classes, and whether words are big-endian
+/// or the reading is strict.
+const READERS: [(u8, u32, bool); 16] = [
     (RELR_READ, 4, false),
     (RELR_READ, 4, true),
     (RELR_READ, 8, false),
@@ -19,9 +19,13 @@ const READERS: [(u8, u32, bool); 12] = [
     (RELR_APPLY, 8, false),
     (RELR_APPLY, 8, true),
     (APR1_READ, 0, false),
+    (APR1_READ, 0, true),
     (APA1_READ, 0, false),
+    (APA1_READ, 0, true),
     (RELLEB_READ, 4, false),
+    (RELLEB_READ, 4, true),
     (RELLEB_READ, 8, false),
+    (RELLEB_READ, 8, true),
 ];
 
 fn without(bytes: &[u8], at: usize) -> Vec<u8> {
@@ -64,25 +68,32 @@ fn one_damage() {
     }
 }
 
-/// Every call that takes tables meets each damage in each class and byte order,
-/// and each damage leaves some tables accepted and some refused.
+/// Every call that takes tables meets each damage in each class, byte order and
+/// setting, and each damage leaves some tables accepted and some refused; of those
+/// that are read strictly too, some with 18.
 #[test]
 fn every_damage_is_met() {
     let mut rng = Rng::new(1);
-    let (mut met, mut kept, mut refused) = (HashSet::new(), HashSet::new(), HashSet::new());
+    let (mut met, mut padded) = (HashSet::new(), HashSet::new());
+    let (mut kept, mut refused) = (HashSet::new(), HashSet::new());
     for _ in 0..20_000 {
         let Made { case, damage: Some(damage) } = generate::case(&mut rng) else {
             continue;
         };
-        met.insert((damage as usize, (case.call, case.class, case.big)));
+        met.insert((damage as usize, (case.call, case.class, case.is_twin())));
+        let answer = by_reference(&case).result.map_err(|refusal| refusal.number);
         // 9, 12 and 15 do not refuse the table.
-        match by_reference(&case).result.map_err(|refusal| refusal.number) {
-            Ok(_) | Err(9 | 12) => kept.insert(damage as usize),
+        match answer {
+            Ok(_) | Err(9 | 12) => kept.insert((damage as usize, case.strict)),
             Err(15) => false,
-            Err(_) => refused.insert(damage as usize),
+            Err(_) => refused.insert((damage as usize, case.strict)),
         };
+        if answer == Err(18) {
+            padded.insert(damage as usize);
+        }
     }
     let readers = |damage| READERS.map(|reader| (damage, reader));
     assert_eq!(met, (0..DAMAGES.len()).flat_map(readers).collect());
-    assert_eq!((kept.len(), refused.len()), (DAMAGES.len(), DAMAGES.len()));
+    assert_eq!((kept.len(), refused.len()), (2 * DAMAGES.len(), 2 * DAMAGES.len()));
+    assert_eq!(padded.len(), DAMAGES.len());
 }

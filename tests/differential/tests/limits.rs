@@ -4,6 +4,7 @@
 use differential::{Run, by_library, by_reference};
 use reference::corpus::calls::{
     APA1_READ, APA1_WRITE, APR1_READ, APR1_WRITE, RELLEB_READ, RELLEB_WRITE, RELR_READ, RELR_WRITE,
+    Setting,
 };
 use reference::corpus::case::{Case, FILL};
 use reference::corpus::tables::{number, padded, relr_bytes, turned};
@@ -24,13 +25,21 @@ fn needs(need: usize) -> Result<usize, Refusal> {
 
 /// What a message tells of a case.
 fn name(case: &Case) -> String {
-    format!("{} class {} big-endian {}", case.call().name, case.class, case.big)
+    let Case { class, big, strict, .. } = case;
+    format!("{} class {class} big-endian {big} strict {strict}", case.call().name)
 }
 
 /// The library answers so, and does as the reference does; also with the case's
-/// twin. An image here has equal bytes, the same in both orders.
+/// big-endian twin. An image here has equal bytes, the same in both orders.
 fn check(case: &Case, answer: Result<usize, Refusal>) {
     check_one(case, answer);
+    if case.call().takes(Setting::Order) {
+        check_twin(case, answer);
+    }
+}
+
+/// The case's twin alone, big-endian or strict, if it has one.
+fn check_twin(case: &Case, answer: Result<usize, Refusal>) {
     if let Some(twin) = table_twin(case) {
         check_one(&twin, answer);
     }
@@ -245,12 +254,14 @@ fn trailing_bytes() {
     for (call, class, start) in tables {
         let mut table = start.to_vec();
         table.resize(INPUT_LIMIT, 0);
-        check(&Case::read_into(call, class, &table, 1), refused(8, start.len()));
+        let case = Case::read_into(call, class, &table, 1);
+        check_one(&case, refused(8, start.len()));
+        check_twin(&case, refused(8, start.len()));
     }
 }
 
-/// A list is written into exactly the bytes it needs and read back; the list
-/// with a record more is refused.
+/// A list is written into exactly the bytes it needs and read back, strictly too; the
+/// list with a record more is refused.
 fn written(mut list: Case, read: u8, longer: Case, need: usize) {
     check(&longer, LIMIT);
     list.bytes = vec![FILL; need - 1];
@@ -258,7 +269,9 @@ fn written(mut list: Case, read: u8, longer: Case, need: usize) {
     list.bytes.push(FILL);
     check(&list, Ok(need));
     let (_, after) = list.run();
-    check(&Case::read_into(read, list.class, &after.bytes, LIST_LIMIT), Ok(LIST_LIMIT));
+    let read = Case::read_into(read, list.class, &after.bytes, LIST_LIMIT);
+    check_one(&read, Ok(LIST_LIMIT));
+    check_twin(&read, Ok(LIST_LIMIT));
 }
 
 /// Offsets at equal gaps, as many as the limit and one more.
