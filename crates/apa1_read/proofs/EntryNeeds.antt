@@ -1,10 +1,11 @@
 -- The needs of the readers of a record and of the head, as the code asks them: what a callee returned is r, with what its contract says of r
 -- and what the match found r to be.
 -- Assumes nothing.
-use Prim.Native.Nat.{ℕ}
+use Prim.Native.Nat.{ℕ, _≤_}
 use mathlib.Core.Path.{_≡_, refl, ap, ap₂, sym, _∙_, subst}
 use mathlib.Core.Bool.{Bool, true, false, not}
 use mathlib.Core.List.{List}
+use native.Mathlib.Omega.{arith}
 use lib.IntN.{ℤ, pos, _+ℤ_}
 use lib.Signed.{mag}
 use mir.Syntax.{w64}
@@ -14,6 +15,7 @@ use borrow.Author.Tests.{not-true, not-false}
 use Rattle.answer.specs.declared.Refusal.{Refusal}
 use Rattle.answer.specs.declared.Refusal.the-variants.{Identifier, Width}
 use Rattle.leb128.specs.Number.{readSigned, isNeg}
+use Rattle.leb128.specs.Inner.{EndsNumber}
 use Rattle.leb128.specs.Cause.{signedCause, signed-cause}
 use Rattle.leb128.specs.declared.Cause.{Cause}
 use Rattle.leb128.specs.declared.Signed.{Signed}
@@ -25,7 +27,7 @@ use Rattle.records.specs.Reading.{one, none}
 use Rattle.wrap.specs.Wrap.{residue, wrapped}
 use Rattle.apa1_table.specs.Table.{row, identifier, stepAt, plain, headAt}
 use Rattle.apa1_table.specs.Table.Laws.{step-not, step-not-2, step-is, head-other, head-not, head-is, count-negative, count-other, plain-is, plain-not}
-use Rattle.apa1_read.specs.Inner.{Skips}
+use Rattle.apa1_read.specs.Inner.{EndsRecord, Skips}
 
 -- a signed number as the code passes it on: by its bits
 abbrev Bits : ℤ → ℤ
@@ -61,6 +63,13 @@ module _ (strict : Bool) (s : List ℕ) (at : ℕ) {r : Signed} (e : r ≡ readS
     skip-is (SRefused why p) g = λ prev. step-not-2 strict s at prev (sym e ∙ f) (sym g)
 
 pub ruleset skips = (skip-not, skip-is, needs)
+
+-- ---- the place past a record
+pub record-ends : (strict : Bool) (s : List ℕ) (at : ℕ) {next r : ℕ} → EndsNumber strict 64 s at next → 1 ≤ next → EndsNumber strict 64 s next r → EndsRecord strict s at r
+record-ends strict s at f k g h prev =
+    let (d, e) = f (omega arith) in
+    let (a, i) = g h in
+    (_, step-is strict s at prev e i refl)
 
 -- ---- the count
 module _ (strict : Bool) (s : List ℕ) {r : Signed} (e : r ≡ readSigned strict 64 s 4) where

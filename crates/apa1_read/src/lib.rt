@@ -10,7 +10,7 @@ ghost use Rattle.leb128.specs.Number.{readSigned};
 ghost use Rattle.apa1_table.specs.Table.{row, identifier, start, stepAt, plain, headAt, parse, decode};
 ghost use Rattle.apa1_table.specs.Contract.{Filled};
 ghost use Rattle.apa1_table.specs.Inner.{Fillable};
-ghost use Rattle.apa1_read.specs.Inner.{entryStep, Skips};
+ghost use Rattle.apa1_read.specs.Inner.{entryStep, EndsRecord, Skips};
 use answer::Found;
 use answer::INPUT_LIMIT;
 use answer::Refusal;
@@ -47,7 +47,7 @@ fn entry_at(s: &[u8], at: usize, offset: u64, addend: i64) -> Entry
 }
 
 // The second number of the record at a place, whose next place is past the record, or the refusal of either.
-fn skip_at(strict: bool, s: &[u8], at: usize) -> Signed
+fn skip_by_numbers(strict: bool, s: &[u8], at: usize) -> Signed
     ensures { λ r. ⌜ Skips strict (now (s .entry)) at r ⌝ }
 {
     let first = leb128::read_signed(strict, s, at, 64);
@@ -55,6 +55,28 @@ fn skip_at(strict: bool, s: &[u8], at: usize) -> Signed
         return first;
     };
     leb128::read_signed(strict, s, next, 64)
+}
+
+// The place past a record whose differences are plainly accepted, or 0.
+fn end_at(strict: bool, s: &[u8], at: usize) -> usize
+    ensures { λ r. ⌜ EndsRecord strict (now (s .entry)) at r ⌝ }
+{
+    let next = leb128::end_number(strict, s, at, 64);
+    if next < 1 {
+        return 0;
+    }
+    leb128::end_number(strict, s, next, 64)
+}
+
+// The same as an answer: any other record is read number by number.
+fn skip_at(strict: bool, s: &[u8], at: usize) -> Signed
+    ensures { λ r. ⌜ Skips strict (now (s .entry)) at r ⌝ }
+{
+    let past = end_at(strict, s, at);
+    if 0 < past {
+        return Signed::Value(0, past);
+    }
+    skip_by_numbers(strict, s, at)
 }
 
 // Whether a table has APA1's identifier.

@@ -137,6 +137,24 @@ module _ (t : Bool) (low b : ℕ) (is : t ≡ true) where
   more-minus zero e w h l = absurd (omega arith)
   more-minus (suc j) e w h l = rw is (last-minus low b j e (omega (arith, bit j w)))
 
+-- a last byte that is neither 0 nor 127 is needed
+module _ (t : Bool) (low k b : ℕ) (e : Ending low k b) where
+  pub certain-lax : t ≡ false → (padded t (shortUnsigned (low + b * 2 ^ (7 * k))) (k + 1) ≡ false) × (padded t (shortSigned (signed (low + b * 2 ^ (7 * k)) (k + 1))) (k + 1) ≡ false)
+  certain-lax h = rw h (refl, refl)
+
+  pub certain-one : k ≤ 0 → (padded t (shortUnsigned (low + b * 2 ^ (7 * k))) (k + 1) ≡ false) × (padded t (shortSigned (signed (low + b * 2 ^ (7 * k)) (k + 1))) (k + 1) ≡ false)
+  certain-one h = (sym (one-unsigned t low k b e h), sym (one-signed t low k b e h))
+
+pub certain-more : (t : Bool) (low k b : ℕ) → Ending low k b → 0 < k → (b ≡ 0 → ⊥) → (b ≡ 127 → ⊥)
+    → (padded t (shortUnsigned (low + b * 2 ^ (7 * k))) (k + 1) ≡ false) × (padded t (shortSigned (signed (low + b * 2 ^ (7 * k)) (k + 1))) (k + 1) ≡ false)
+certain-more false low k b e h n m = (refl, refl)
+certain-more true low zero b e h n m = absurd (omega arith)
+certain-more true low (suc j) b e h n m =
+    (sym (last-unsigned low b j e) ∙ ne-eqb b 0 n, elim (decLt low (64 * 2 ^ (7 * j))) [
+      | yes l ↦ sym (last-plus low b j e l) ∙ ne-eqb b 0 n
+      | no l ↦ sym (last-minus low b j e (omega arith)) ∙ ne-eqb b 127 m
+    ])
+
 pub ruleset paddings = (one-unsigned, one-signed, more-unsigned, more-plus, more-minus, needs)
 
 -- ---- what stands at a place, by the setting: what is refused, a value in its shortest form, and one that is longer

@@ -11,10 +11,11 @@ ghost use Rattle.records.specs.Reading.{records};
 ghost use Rattle.relleb_table.specs.Table.{state, start, noChange, withAddend, withSymbol, withType, stepAt, parse, decode};
 ghost use Rattle.relleb_table.specs.Contract.{Filled};
 ghost use Rattle.relleb_table.specs.Inner.{Fillable};
-ghost use Rattle.relleb_read.specs.Inner.{entryStep, changeAt, Skips};
+ghost use Rattle.relleb_read.specs.Inner.{entryStep, changeAt, EndsAddend, EndsSymbol, EndsRecord, Skips};
 use answer::Found;
 use answer::INPUT_LIMIT;
 use answer::Refusal;
+use leb128::Ended;
 use leb128::Signed;
 use leb128::Unsigned;
 
@@ -152,7 +153,7 @@ fn skip_addend(strict: bool, s: &[u8], at: usize, width: u32) -> Signed
 }
 
 // The last number of the record at a place, whose next place is past the record, or the refusal of any.
-fn skip_at(strict: bool, s: &[u8], at: usize, width: u32) -> Signed
+fn skip_by_numbers(strict: bool, s: &[u8], at: usize, width: u32) -> Signed
     requires { ⌜ IsWidth width ⌝ }
     ensures { λ r. ⌜ Skips strict width (now (s .entry)) at r ⌝ }
 {
@@ -174,6 +175,61 @@ fn skip_at(strict: bool, s: &[u8], at: usize, width: u32) -> Signed
         return skip_addend(strict, s, past, width);
     }
     Signed::Value(field, past)
+}
+
+// The place past an addend's difference, which strictly may not be 0, or 0.
+fn end_addend(strict: bool, s: &[u8], at: usize, width: u32) -> usize
+    requires { ⌜ IsWidth width ⌝ }
+    ensures { λ r. ⌜ EndsAddend strict width (now (s .entry)) at r ⌝ }
+{
+    if strict {
+        let change = skip_addend(strict, s, at, width);
+        let Signed::Value(_, past) = change else {
+            return 0;
+        };
+        return past;
+    }
+    leb128::end_number(false, s, at, width)
+}
+
+// The place past a symbol field, and past the addend's difference if it follows, or 0.
+fn end_symbol(strict: bool, s: &[u8], at: usize, width: u32) -> usize
+    requires { ⌜ IsWidth width ⌝ }
+    ensures { λ r. ⌜ EndsSymbol strict width (now (s .entry)) at r ⌝ }
+{
+    match leb128::end_signed(strict, s, at, 33) {
+        Ended::Positive(past) => past,
+        Ended::Negative(next) => end_addend(strict, s, next, width),
+        Ended::Unsaid => 0,
+    }
+}
+
+// The place past a record whose numbers are plainly accepted, or 0.
+fn end_at(strict: bool, s: &[u8], at: usize, width: u32) -> usize
+    requires { ⌜ IsWidth width ⌝ }
+    ensures { λ r. ⌜ EndsRecord strict width (now (s .entry)) at r ⌝ }
+{
+    let kind_at = leb128::end_unsigned(strict, s, at, width);
+    if kind_at < 1 {
+        return 0;
+    }
+    let symbol_at = leb128::end_number(strict, s, kind_at, 32);
+    if symbol_at < 1 {
+        return 0;
+    }
+    end_symbol(strict, s, symbol_at, width)
+}
+
+// The same as an answer: any other record is read number by number.
+fn skip_at(strict: bool, s: &[u8], at: usize, width: u32) -> Signed
+    requires { ⌜ IsWidth width ⌝ }
+    ensures { λ r. ⌜ Skips strict width (now (s .entry)) at r ⌝ }
+{
+    let past = end_at(strict, s, at, width);
+    if 0 < past {
+        return Signed::Value(0, past);
+    }
+    skip_by_numbers(strict, s, at, width)
 }
 
 // The first pass over so many records from a place on: their count, or the refusal. It needs no sums: none is refused.
