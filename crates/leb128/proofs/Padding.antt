@@ -149,11 +149,13 @@ pub certain-more : (t : Bool) (low k b : ℕ) → Ending low k b → 0 < k → (
     → (padded t (shortUnsigned (low + b * 2 ^ (7 * k))) (k + 1) ≡ false) × (padded t (shortSigned (signed (low + b * 2 ^ (7 * k)) (k + 1))) (k + 1) ≡ false)
 certain-more false low k b e h n m = (refl, refl)
 certain-more true low zero b e h n m = absurd (omega arith)
-certain-more true low (suc j) b e h n m =
-    (sym (last-unsigned low b j e) ∙ ne-eqb b 0 n, elim (decLt low (64 * 2 ^ (7 * j))) [
-      | yes l ↦ sym (last-plus low b j e l) ∙ ne-eqb b 0 n
-      | no l ↦ sym (last-minus low b j e (omega arith)) ∙ ne-eqb b 127 m
-    ])
+certain-more true low (suc j) b e h n m = (
+  sym (last-unsigned low b j e) ∙ ne-eqb b 0 n,
+  elim (decLt low (64 * 2 ^ (7 * j))) [
+    | yes l ↦ sym (last-plus low b j e l) ∙ ne-eqb b 0 n
+    | no l ↦ sym (last-minus low b j e (omega arith)) ∙ ne-eqb b 127 m
+  ],
+)
 
 pub ruleset paddings = (one-unsigned, one-signed, more-unsigned, more-plus, more-minus, needs)
 
