@@ -128,8 +128,8 @@ module _ (class : ℕ) where
       (bounded-class (inNamed relrOffsets) (inNamed relrOffsets) (λ z. relr.targets (classIn z order) s base start (length old)) (λ z. relr-bounds.targets-bounded (classIn z order) s base start (length old)) (classOf class)) (a .answer)
 
 -- ---- APR1
-pub apr1-read : (s column : List ℕ) {column′ : List ℕ} {r : Answer} → Bytes s → apr1-contract.Reads s column r column′ → Within inputLimit apr1Offsets r
-apr1-read s column bytes d = answer-in input-fits (omega (arith, input-most)) (length column) (apr1-contract.decoding s) (apr1-bounds.decode-bounded s bytes) (d .answer)
+pub apr1-read : (strict : Bool) (s column : List ℕ) {column′ : List ℕ} {r : Answer} → Bytes s → apr1-contract.Reads strict s column r column′ → Within inputLimit apr1Offsets r
+apr1-read strict s column bytes d = answer-in input-fits (omega (arith, input-most)) (length column) (apr1-contract.decoding strict s) (apr1-bounds.decode-bounded strict s bytes) (d .answer)
 
 pub apr1-write : (l old : List ℕ) {new : List ℕ} {r : Answer} → apr1-contract.Writes l old r new → Readable listLimit apr1Bytes r
 apr1-write l old w =
@@ -137,11 +137,11 @@ apr1-write l old w =
     (answer-in list-fits (omega (arith, list-small)) (length old) (apr1-contract.encoding l) (apr1-bounds.encode-bounded l) (w .answer))
 
 -- ---- APA1
-pub apa1-read : (s os : List ℕ) (us : List ℤ) {os′ : List ℕ} {us′ : List ℤ} {r : Answer} → Bytes s → apa1-contract.Reads s os us r os′ us′ → Within inputLimit apa1Records r
+pub apa1-read : (strict : Bool) (s os : List ℕ) (us : List ℤ) {os′ : List ℕ} {us′ : List ℤ} {r : Answer} → Bytes s → apa1-contract.Reads strict s os us r os′ us′ → Within inputLimit apa1Records r
 unfolding apa1-contract.decoding
-apa1-read s os us bytes d =
-    answer-in input-fits (omega (arith, input-most)) (length os) (apa1-contract.decoding s (length os) (length us))
-    (bounded-cond (eqb (length os) (length us)) why.Columns (apa1.decode s) (apa1-bounds.decode-bounded s bytes)) (d .answer)
+apa1-read strict s os us bytes d =
+    answer-in input-fits (omega (arith, input-most)) (length os) (apa1-contract.decoding strict s (length os) (length us))
+    (bounded-cond (eqb (length os) (length us)) why.Columns (apa1.decode strict s) (apa1-bounds.decode-bounded strict s bytes)) (d .answer)
 
 pub apa1-write : (os : List ℕ) (us : List ℤ) (old : List ℕ) {new : List ℕ} {r : Answer} → apa1-contract.Writes os us old r new → Readable listLimit apa1Bytes r
 unfolding apa1-contract.encoding
@@ -152,14 +152,14 @@ apa1-write os us old w =
 
 -- ---- RELLEB
 module _ (class : ℕ) where
-  pub relleb-read : (s os ts ys : List ℕ) (us : List ℤ) {os′ ts′ ys′ : List ℕ} {us′ : List ℤ} {r : Answer} → Bytes s → relleb-contract.Reads class s os ts ys us r os′ ts′ ys′ us′
+  pub relleb-read : (strict : Bool) (s os ts ys : List ℕ) (us : List ℤ) {os′ ts′ ys′ : List ℕ} {us′ : List ℤ} {r : Answer} → Bytes s → relleb-contract.Reads class strict s os ts ys us r os′ ts′ ys′ us′
       → Within inputLimit rellebRecords r
   unfolding relleb-contract.decoding
-  relleb-read s os ts ys us bytes d =
+  relleb-read strict s os ts ys us bytes d =
       let even = relleb-contract.even (length os) (length ts) (length ys) (length us) in
-      answer-in input-fits (omega (arith, input-most)) (length os) (relleb-contract.decoding class s (length os) (length ts) (length ys) (length us))
-      (bounded-class (λ m. inputLimit) (λ m. rellebRecords) (λ k. cond even (relleb.decode (widthOf k) s) (refused why.Columns 0))
-      (λ k. bounded-cond even why.Columns (relleb.decode (widthOf k) s) (relleb-bounds.decode-bounded (widthOf k) s (relleb-laws.class-width k refl .0) bytes)) (classOf class)) (d .answer)
+      answer-in input-fits (omega (arith, input-most)) (length os) (relleb-contract.decoding class strict s (length os) (length ts) (length ys) (length us))
+      (bounded-class (λ m. inputLimit) (λ m. rellebRecords) (λ k. cond even (relleb.decode strict (widthOf k) s) (refused why.Columns 0))
+      (λ k. bounded-cond even why.Columns (relleb.decode strict (widthOf k) s) (relleb-bounds.decode-bounded strict (widthOf k) s (relleb-laws.class-width k refl .0) bytes)) (classOf class)) (d .answer)
 
   pub relleb-write : (os ts ys : List ℕ) (us : List ℤ) (old : List ℕ) {new : List ℕ} {r : Answer} → U32 ts → U32 ys → relleb-contract.Writes class os ts ys us old r new
       → Readable listLimit rellebBytes r
@@ -195,8 +195,8 @@ relr-passed k t i w {l} h e =
     words j m = by-bytes (λ (n : ℕ). m * n ≤ inputLimit → m ≤ inputLimit / n) (λ h. omega arith) (λ h. omega arith) j
 
 -- APR1: the first offset and those of some pairs of a table, wherever they end
-pub apr1-passed : (s : List ℕ) (end n at x : ℕ) {ps : List apr1.Pair} → length s ≤ inputLimit → at ≤ length s → records (apr1.stepAt s) end n at x ≡ accepted ps → 1 + length (apr1.expand x ps) ≤ apr1Offsets
-apr1-passed s end n at x h k e =
-    let q = of-accepted (λ (ps : List apr1.Pair). length (apr1.expand x ps) ≤ length s / 2 * (2 ^ 32 - 1)) e (apr1-bounds.pairs-most s end n at x k) in
+pub apr1-passed : (strict : Bool) (s : List ℕ) (end n at x : ℕ) {ps : List apr1.Pair} → length s ≤ inputLimit → at ≤ length s → records (apr1.stepAt strict s) end n at x ≡ accepted ps → 1 + length (apr1.expand x ps) ≤ apr1Offsets
+apr1-passed strict s end n at x h k e =
+    let q = of-accepted (λ (ps : List apr1.Pair). length (apr1.expand x ps) ≤ length s / 2 * (2 ^ 32 - 1)) e (apr1-bounds.pairs-most strict s end n at x k) in
     let m : length s / 2 ≤ inputLimit / 2 = omega arith in
     omega (arith, mul-le-mul-right (2 ^ 32 - 1) m)

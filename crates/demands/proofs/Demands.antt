@@ -1,6 +1,6 @@
 -- What is promised of the calls, in the papers' words, as theorems about their contracts. The same names for each kind:
 --   KIND-back       demand 2: a legal list with room for its table is written; and reading that table into columns with room gives the list
---                   back, record for record
+--                   back, record for record; a kind of LEB128 numbers by either setting
 --   KIND-legal, KIND-legal-is     document 01: which lists are legal, those to which no refusal but 9 applies
 --   KIND-only       document 01: a write gives only 11, 2 and 9
 --   relr-elsewhere  demand 2: applying changes no other byte
@@ -145,10 +145,10 @@ apr1-legal l h = record { list = _; is = apr1-trip.encode-accepts l h }
 pub apr1-legal-is : (l : List ℕ) {b : List ℕ} → apr1-contract.encoding l ≡ accepted b → apr1.Writable l
 apr1-legal-is l e = apr1-trip.encode-legal l e
 
-module _ (l old column : List ℕ) {new column′ : List ℕ} {w r : Answer} where
-  pub apr1-back : (f : Fitting (apr1-contract.encoding l) (length old)) → apr1-contract.Writes l old w new → apr1-contract.Reads (take (w .count) new) column r column′
+module _ (strict : Bool) (l old column : List ℕ) {new column′ : List ℕ} {w r : Answer} where
+  pub apr1-back : (f : Fitting (apr1-contract.encoding l) (length old)) → apr1-contract.Writes l old w new → apr1-contract.Reads strict (take (w .count) new) column r column′
       → length l ≤ length column → Returned w r (length (f .list)) (length l) × Begins l column′
-  apr1-back f g d h = returned (apr1-contract.decoding (take (w .count) new)) column (wrote f g) (rw (front f g) (apr1-trip.decode-encode l (f .is))) d h
+  apr1-back f g d h = returned (apr1-contract.decoding strict (take (w .count) new)) column (wrote f g) (rw (front f g) (apr1-trip.decode-encode l (f .is) strict)) d h
 
 -- ---- APA1
 module _ (os : List ℕ) (us : List ℤ) where
@@ -178,13 +178,13 @@ module _ (os : List ℕ) (us : List ℤ) where
           ]
         ]
 
-    module _ (os₀ : List ℕ) (us₀ : List ℤ) {r : Answer} {os′ : List ℕ} {us′ : List ℤ} where
-      pub apa1-back : (f : Fitting (apa1-contract.encoding os us) (length old)) → apa1-contract.Reads (take (w .count) new) os₀ us₀ r os′ us′
+    module _ (strict : Bool) (os₀ : List ℕ) (us₀ : List ℤ) {r : Answer} {os′ : List ℕ} {us′ : List ℤ} where
+      pub apa1-back : (f : Fitting (apa1-contract.encoding os us) (length old)) → apa1-contract.Reads strict (take (w .count) new) os₀ us₀ r os′ us′
           → length os₀ ≡ length us₀ → length os ≤ length os₀ → Returned w r (length (f .list)) (length os) × Begins os os′ × Begins us us′
       apa1-back f d even h =
           let (same, few) = apa1-legal-is (f .is) in
           let z = wrote-zero f (g .gives) in
-          let e = apa1-laws.read-plain (take (w .count) new) (length os₀) (length us₀) even ∙ g .back z in
+          let e = apa1-laws.read-plain strict (take (w .count) new) (length os₀) (length us₀) even ∙ g .back strict z in
           let n : length (apa1.rows os us) ≡ length os = rows-length os us same in (
             record { written = wrote f (g .gives); read = d .answer ∙ answer-fits (length os₀) (record { list = apa1.rows os us; is = e; long = n }) h },
             begins-as apa1-contract.offsetOf os₀ e (apa1-trip.rows-offsets os us same) h (d .columns .offsets),
@@ -224,14 +224,14 @@ module _ (class : ℕ) (os ts ys : List ℕ) (us : List ℤ) where
         (z, n, s, omega (arith, relleb-laws.many os ts ys us s), l)
 
   module _ (old : List ℕ) {new : List ℕ} {w : Answer} (g : relleb-contract.Writes class os ts ys us old w new) where
-    module _ (os₀ ts₀ ys₀ : List ℕ) (us₀ : List ℤ) {r : Answer} {os′ ts′ ys′ : List ℕ} {us′ : List ℤ} where
-      pub relleb-back : (f : Fitting (relleb-contract.encoding class os ts ys us) (length old)) → relleb-contract.Reads class (take (w .count) new) os₀ ts₀ ys₀ us₀ r os′ ts′ ys′ us′
+    module _ (strict : Bool) (os₀ ts₀ ys₀ : List ℕ) (us₀ : List ℤ) {r : Answer} {os′ ts′ ys′ : List ℕ} {us′ : List ℤ} where
+      pub relleb-back : (f : Fitting (relleb-contract.encoding class os ts ys us) (length old)) → relleb-contract.Reads class strict (take (w .count) new) os₀ ts₀ ys₀ us₀ r os′ ts′ ys′ us′
           → relleb-contract.Same os₀ ts₀ ys₀ us₀ → length os ≤ length os₀ → Returned w r (length (f .list)) (length os) × Begins os os′ × Begins ts ts′ × Begins ys ys′ × Begins us us′
       relleb-back f d even h =
           let (z, n, s, few, l) = relleb-legal-is (f .is) in
           let zero = wrote-zero f (g .gives) in
           let t = take (w .count) new in
-          let e = relleb-laws.read-plain class t (length os₀) (length ts₀) (length ys₀) (length us₀) refl n (relleb-laws.same-even os₀ ts₀ ys₀ us₀ even) ∙ g .back z n zero in
+          let e = relleb-laws.read-plain class strict t (length os₀) (length ts₀) (length ys₀) (length us₀) refl n (relleb-laws.same-even os₀ ts₀ ys₀ us₀ even) ∙ g .back strict z n zero in
           let m = relleb-laws.many os ts ys us s in (
             record { written = wrote f (g .gives); read = d .answer ∙ answer-fits (length os₀) (record { list = relleb.rows os ts ys us; is = e; long = m }) h },
             begins-as relleb-contract.offsetOf os₀ e (relleb-trip.rows-offsets os ts ys us s) h (d .columns .offsets),

@@ -15,7 +15,7 @@ use Rattle.answer.specs.declared.Refusal.the-variants.{Width, Columns}
 use Rattle.answer.specs.Bytes.{Bytes}
 use Rattle.answer.specs.Outcome.{Outcome, accepted, refused, success, refusal, noRoom, answerIn}
 use Rattle.answer.specs.Outcome.Laws.{number-one}
-use Rattle.leb128.proofs.Laws.{signed-value}
+use Rattle.leb128.proofs.Setting.{signed-value}
 use Rattle.word.specs.declared.Size.{Size}
 use Rattle.word.specs.declared.Named.{Named}
 use Rattle.word.specs.declared.Named.the-variants.{Is, Unknown}
@@ -47,50 +47,50 @@ answered room (refused why p) {r} e n =
     rw (w, q)
 
 -- ---- APR1
-module _ (s column : List ℕ) {column′ : List ℕ} {r : Answer} (bytes : Bytes s) (reads : apr1.Reads s column r column′) (is : r .number ≡ 5) where
+module _ (strict : Bool) (s column : List ℕ) {column′ : List ℕ} {r : Answer} (bytes : Bytes s) (reads : apr1.Reads strict s column r column′) (is : r .number ≡ 5) where
   pub apr1-width : apr1-byte.WidthFault s (r .place)
-  apr1-width = apr1-guilty.decode-guilty s bytes (answered (length column) (apr1.decoding s) (reads .answer) is)
+  apr1-width = apr1-guilty.decode-guilty strict s bytes (answered (length column) (apr1.decoding strict s) (reads .answer) is)
 
   pub apr1-inside : r .place < length s
   apr1-inside = apr1-width .1 .inside
 
 -- ---- APA1
-module _ (s os : List ℕ) (us : List ℤ) {r : Answer} {os′ : List ℕ} {us′ : List ℤ} (bytes : Bytes s) (reads : apa1.Reads s os us r os′ us′) (is : r .number ≡ 5) where
-  apa1-decodes : apa1-table.decode s ≡ refused Width (r .place)
+module _ (strict : Bool) (s os : List ℕ) (us : List ℤ) {r : Answer} {os′ : List ℕ} {us′ : List ℤ} (bytes : Bytes s) (reads : apa1.Reads strict s os us r os′ us′) (is : r .number ≡ 5) where
+  apa1-decodes : apa1-table.decode strict s ≡ refused Width (r .place)
   unfolding apa1.decoding
-  apa1-decodes = go (eqb (length os) (length us)) (answered (length os) (apa1.decoding s (length os) (length us)) (reads .answer) is)
+  apa1-decodes = go (eqb (length os) (length us)) (answered (length os) (apa1.decoding strict s (length os) (length us)) (reads .answer) is)
     where
-      go : (t : Bool) → cond t (apa1-table.decode s) (refused Columns 0) ≡ refused Width (r .place) → apa1-table.decode s ≡ refused Width (r .place)
+      go : (t : Bool) → cond t (apa1-table.decode strict s) (refused Columns 0) ≡ refused Width (r .place) → apa1-table.decode strict s ≡ refused Width (r .place)
       go true e = e
       go false e = let z : _≡_ {A = ℕ} 0 1 = cc in absurd (omega arith)
 
   pub apa1-width : apa1-byte.WidthFault s (r .place)
-  apa1-width = apa1-guilty.decode-guilty s bytes apa1-decodes
+  apa1-width = apa1-guilty.decode-guilty s bytes strict apa1-decodes
 
   pub apa1-inside : r .place < length s
   apa1-inside = go apa1-width
     where
       go : apa1-byte.WidthFault s (r .place) → r .place < length s
       go (inl (at, g)) = g .inside
-      go (inr (p, (n, next, e))) = omega (arith, signed-value 64 s (length apa1-table.identifier) (negsuc n) next e)
+      go (inr (p, (n, next, e))) = omega (arith, signed-value false 64 s (length apa1-table.identifier) (negsuc n) next e)
 
 -- ---- RELLEB
-module _ (size : ℕ) (s os ts ys : List ℕ) (us : List ℤ) {r : Answer} {os′ ts′ ys′ : List ℕ} {us′ : List ℤ} (bytes : Bytes s)
-    (reads : relleb.Reads size s os ts ys us r os′ ts′ ys′ us′) (is : r .number ≡ 5) where
+module _ (size : ℕ) (strict : Bool) (s os ts ys : List ℕ) (us : List ℤ) {r : Answer} {os′ ts′ ys′ : List ℕ} {us′ : List ℤ} (bytes : Bytes s)
+    (reads : relleb.Reads size strict s os ts ys us r os′ ts′ ys′ us′) (is : r .number ≡ 5) where
   -- what the columns and the class do not refuse, the table does
-  relleb-uneven : (k : Size) (t : Bool) → cond t (relleb-table.decode (widthOf k) s) (refused Columns 0) ≡ refused Width (r .place)
+  relleb-uneven : (k : Size) (t : Bool) → cond t (relleb-table.decode strict (widthOf k) s) (refused Columns 0) ≡ refused Width (r .place)
       → relleb-byte.WidthFault (widthOf k) s (r .place)
-  relleb-uneven k true e = relleb-guilty.decode-guilty (widthOf k) (relleb-laws.class-width k refl .0) s bytes e
+  relleb-uneven k true e = relleb-guilty.decode-guilty strict (widthOf k) (relleb-laws.class-width k refl .0) s bytes e
   relleb-uneven k false e = let z : _≡_ {A = ℕ} 0 1 = cc in absurd (omega arith)
 
   pub relleb-width : (k : Size) × (classOf size ≡ Is k) × relleb-byte.WidthFault (widthOf k) s (r .place)
   unfolding relleb.decoding
-  relleb-width = go (classOf size) refl (answered (length os) (relleb.decoding size s (length os) (length ts) (length ys) (length us)) (reads .answer) is)
+  relleb-width = go (classOf size) refl (answered (length os) (relleb.decoding size strict s (length os) (length ts) (length ys) (length us)) (reads .answer) is)
     where
       even : Bool
       even = relleb.even (length os) (length ts) (length ys) (length us)
 
-      go : (n : Named) → classOf size ≡ n → inClass n (λ k. cond even (relleb-table.decode (widthOf k) s) (refused Columns 0)) ≡ refused Width (r .place)
+      go : (n : Named) → classOf size ≡ n → inClass n (λ k. cond even (relleb-table.decode strict (widthOf k) s) (refused Columns 0)) ≡ refused Width (r .place)
           → (k : Size) × (classOf size ≡ Is k) × relleb-byte.WidthFault (widthOf k) s (r .place)
       go (Is k) e f = (k, e, relleb-uneven k even f)
       go Unknown e f = let z : _≡_ {A = ℕ} 0 1 = cc in absurd (omega arith)

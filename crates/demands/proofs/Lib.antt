@@ -4,3 +4,4 @@ pub mod BiggerModules
 pub mod ImageStart
 pub mod ByteOrders
 pub mod Moving
+pub mod Strict

@@ -4,3 +4,4 @@ pub mod FromZero
 pub mod LowFirst
 pub mod Reversed
 pub mod Moving
+pub mod Lax
