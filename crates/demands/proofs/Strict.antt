@@ -179,7 +179,7 @@ module _ (s os : List ℕ) (us : List ℤ) {r r′ : Answer} {os′ os″ : List
             d .columns .addends ∙ filled-refused apa1-contract.addendOf us q,
           )
 
-module _ (class : ℕ) (s os ts ys : List ℕ) (us : List ℤ) {r r′ : Answer} {os′ ts′ ys′ os″ ts″ ys″ : List ℕ} {us′ us″ : List ℤ} where
+module _ (class : ℕ) (s os ts ys : List ℕ) (us : List ℤ) where
   -- what the two settings make of the class and the columns
   relleb-unless : Unless refused relleb-setting.Spelled (relleb-contract.decoding class true s (length os) (length ts) (length ys) (length us)) (relleb-contract.decoding class false s (length os) (length ts) (length ys) (length us))
   unfolding relleb-contract.decoding
@@ -192,11 +192,11 @@ module _ (class : ℕ) (s os ts ys : List ℕ) (us : List ℤ) {r r′ : Answer}
       go (Is z) = unless-cond refused relleb-setting.Spelled even (relleb.decode true (widthOf z) s) (relleb.decode false (widthOf z) s) (refused Columns 0) (relleb-setting.decode-unless true (widthOf z) s)
       go Unknown = same refl
 
-  pub relleb-strict : relleb-contract.Reads class true s os ts ys us r os′ ts′ ys′ us′ → relleb-contract.Reads class false s os ts ys us r′ os″ ts″ ys″ us″
+  pub relleb-strict : {r r′ : Answer} {os′ ts′ ys′ os″ ts″ ys″ : List ℕ} {us′ us″ : List ℤ} → relleb-contract.Reads class true s os ts ys us r os′ ts′ ys′ us′ → relleb-contract.Reads class false s os ts ys us r′ os″ ts″ ys″ us″
       → ((r ≡ r′) × (os′ ≡ os″) × (ts′ ≡ ts″) × (ys′ ≡ ys″) × (us′ ≡ us″))
       ⊎ (((r .number ≡ 18) ⊎ (r .number ≡ 19)) × (os′ ≡ os) × (ts′ ≡ ts) × (ys′ ≡ ys) × (us′ ≡ us))
   unfolding refusal
-  relleb-strict d e = go relleb-unless
+  relleb-strict {r} {r′} {os′} {ts′} {ys′} {os″} {ts″} {ys″} {us′} {us″} d e = go relleb-unless
     where
       named : (why : Refusal) (p : ℕ) → r .number ≡ numberOf why → relleb-setting.Spelled why p → (r .number ≡ 18) ⊎ (r .number ≡ 19)
       named why p n (inl h) = inl (n ∙ ap numberOf h)
