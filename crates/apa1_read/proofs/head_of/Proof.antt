@@ -1,5 +1,5 @@
 use borrow.Author.Needs.{needs}
-use Rattle.apa1_read.proofs.EntryNeeds.{heads}
+use Rattle.apa1_read.proofs.EntryNeeds.{head-negative, heads}
 use Rattle.apa1_read.proofs.head_of.Statement.{statement}
 use Rattle.apa1_read.proofs.head_of.Tie as tie
 use Rattle.apa1_read.proofs.head_of.Reads as reads
@@ -44,7 +44,7 @@ is-negative-requires c κs = search needs
 
 -- src/lib.rt:94:9
 returns-3 : tie.Need-returns-3
-returns-3 c = search heads
+returns-3 c = search (head-negative, needs)
 
 -- src/lib.rt:96:5
 count-at-requires : tie.Need-count-at-requires
