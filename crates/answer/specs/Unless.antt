@@ -13,11 +13,21 @@ pub data Unless {X : Type 0} (bad : Refusal → ℕ → X) (P : Said) (x y : X) 
   same : x ≡ y → Unless bad P x y
   but : (why : Refusal) (p : ℕ) → x ≡ bad why p → P why p → Unless bad P x y
 
--- what two functions make of two such readings, where the first hands a refusal on and they make such of each
+-- what two functions make of two such readings, where the first hands a refusal on and they make such of the first reading
+pub unless-at : {X Y : Type 0} (bad : Refusal → ℕ → X) (worse : Refusal → ℕ → Y) (P : Said) (f g : X → Y) → ((why : Refusal) (p : ℕ) → f (bad why p) ≡ worse why p)
+    → (x y : X) → Unless worse P (f x) (g x) → Unless bad P x y → Unless worse P (f x) (g y)
+unless-at bad worse P f g on x y at (same e) = subst (λ (z : _). Unless worse P (f x) (g z)) e at
+unless-at bad worse P f g on x y at (but why p e h) = but why p (ap f e ∙ on why p) h
+
+-- or of each
 pub unless-then : {X Y : Type 0} (bad : Refusal → ℕ → X) (worse : Refusal → ℕ → Y) (P : Said) (f g : X → Y) → ((why : Refusal) (p : ℕ) → f (bad why p) ≡ worse why p)
     → ((x : X) → Unless worse P (f x) (g x)) → (x y : X) → Unless bad P x y → Unless worse P (f x) (g y)
-unless-then bad worse P f g on each x y (same e) = subst (λ (z : _). Unless worse P (f x) (g z)) e (each x)
-unless-then bad worse P f g on each x y (but why p e h) = but why p (ap f e ∙ on why p) h
+unless-then bad worse P f g on each x y h = unless-at bad worse P f g on x y (each x) h
+
+-- what follows from what is said of the refusal
+pub unless-map : {X : Type 0} (bad : Refusal → ℕ → X) (P Q : Said) {x y : X} → ((why : Refusal) (p : ℕ) → P why p → Q why p) → Unless bad P x y → Unless bad Q x y
+unless-map bad P Q f (same e) = same e
+unless-map bad P Q f (but why p e h) = but why p e (f why p h)
 
 -- of two, by a test
 pub unless-cond : {X : Type 0} (bad : Refusal → ℕ → X) (P : Said) (t : Bool) (x y z : X) → Unless bad P x y → Unless bad P (cond t x z) (cond t y z)

@@ -1,12 +1,13 @@
 -- Document 02, §6, as theorems about the calls that read numbers:
 --   KIND-lax     lax reading answers as before: its outcome is that of the definitions from before (specs/Lax.antt)
---   KIND-strict  strict reading answers as lax reading does, and leaves the same in the columns, unless it refuses: with 18, and RELLEB with 18 or 19
+--   KIND-strict  strict reading answers as lax reading does, and leaves the same in the columns, unless it refuses: with 18, and then at its place
+--                begins a number longer than its shortest form; RELLEB also with 19, and then there begins an addend's difference of 0
 -- That the writers meet the strict setting is KIND-back of Demands.antt, which is over the setting.
 -- Assumes nothing.
 use mathlib.Core.Bool.{Bool, true, false, cond}
 use mathlib.Core.List.{List}
 use mathlib.Core.Logic.{_⊎_, inl, inr}
-use mathlib.Core.Path.{_≡_, refl, sym, ap, _∙_}
+use mathlib.Core.Path.{_≡_, refl, sym, ap, _∙_, subst}
 use Prim.Native.Nat.{ℕ, _+_, _%_, _^_}
 use lib.Dec.{leb, eqb}
 use lib.IntN.{ℤ, pos, negsuc, _+ℤ_}
@@ -17,14 +18,16 @@ use Rattle.answer.specs.declared.Refusal.the-variants.{Limit, Identifier, Space
 use Rattle.answer.specs.Outcome.{Outcome, refused, numberOf, inputLimit, refusal, answerIn, filled, itself}
 use Rattle.answer.specs.Outcome.Laws.{answer-refused, filled-refused}
 use Rattle.answer.specs.Said.{Said}
-use Rattle.answer.specs.Unless.{Unless, same, but, unless-then, unless-cond}
+use Rattle.answer.specs.Unless.{Unless, same, but, unless-then, unless-cond, unless-map}
 use Rattle.leb128.specs.Number.{laxUnsigned, laxSigned, readUnsigned, readSigned}
+use Rattle.leb128.specs.Longer.{LongerUnsigned, LongerSigned}
 use Rattle.leb128.specs.declared.Signed.{Signed}
 use Rattle.leb128.specs.declared.Signed.the-variants.{Value, Refused}
 use Rattle.leb128.specs.declared.Unsigned.{Unsigned}
 use Rattle.leb128.specs.declared.Unsigned.the-variants.{Value as UValue, Refused as URefused}
 use Rattle.leb128.proofs.Setting.{lax-unsigned, lax-signed}
 use Rattle.word.specs.declared.Named.{Named}
+use Rattle.word.specs.declared.Size.{Size}
 use Rattle.word.specs.declared.Named.the-variants.{Is, Unknown}
 use Rattle.word.specs.Class.{widthOf, classOf, inClass}
 use Rattle.records.specs.Identifier.{startsWith}
@@ -144,67 +147,78 @@ module _ (W : ℕ) (s : List ℕ) where
       (never (unless-counted Never (relleb.stepAt false W s) (recordAt W s) (length s) record-lax relleb.start (readUnsigned false 64 s 0) (laxUnsigned 64 s 0) (same (lax-unsigned 64 s 0))))
 
 -- ---- strict reading against lax
+-- a refused answer has the refusal's number and its place
+refused-at : {r : Answer} (why : Refusal) (p : ℕ) (P : ℕ → Type 0) → r ≡ refusal why p → P p → (r .number ≡ numberOf why) × P (r .place)
+unfolding refusal
+refused-at why p P e h = (ap (λ (x : Answer). x .number) e, subst P (sym (ap (λ (x : Answer). x .place) e)) h)
+
 module _ (s column : List ℕ) {r r′ : Answer} {new new′ : List ℕ} where
   pub apr1-strict : apr1-contract.Reads true s column r new → apr1-contract.Reads false s column r′ new′
-      → ((r ≡ r′) × (new ≡ new′)) ⊎ ((r .number ≡ 18) × (new ≡ column))
-  unfolding refusal filled
+      → ((r ≡ r′) × (new ≡ new′)) ⊎ ((r .number ≡ 18) × LongerUnsigned 32 s (r .place) × (new ≡ column))
   apr1-strict d e = go (apr1.decode true s) (apr1.decode false s) (apr1-setting.decode-unless true s) (d .answer) (d .held) (e .answer) (e .held)
     where
-      go : (o o′ : Outcome (List ℕ)) → Unless refused apr1-setting.Spelled o o′ → r ≡ answerIn (length column) o → new ≡ filled itself o column
-          → r′ ≡ answerIn (length column) o′ → new′ ≡ filled itself o′ column → ((r ≡ r′) × (new ≡ new′)) ⊎ ((r .number ≡ 18) × (new ≡ column))
+      go : (o o′ : Outcome (List ℕ)) → Unless refused (apr1-setting.Spelled s) o o′ → r ≡ answerIn (length column) o → new ≡ filled itself o column
+          → r′ ≡ answerIn (length column) o′ → new′ ≡ filled itself o′ column → ((r ≡ r′) × (new ≡ new′)) ⊎ ((r .number ≡ 18) × LongerUnsigned 32 s (r .place) × (new ≡ column))
       go o o′ (same q) a b c f = inl (a ∙ ap (answerIn (length column)) q ∙ sym c, b ∙ ap (λ (x : Outcome (List ℕ)). filled itself x column) q ∙ sym f)
-      go o o′ (but why p q h) a b c f =
-          inr (ap (λ (x : Answer). x .number) (a ∙ answer-refused (length column) q) ∙ ap numberOf h, b ∙ filled-refused itself column q)
+      go o o′ (but why p q (w, l)) a b c f =
+          let (n, at) = refused-at why p (LongerUnsigned 32 s) (a ∙ answer-refused (length column) q) l in
+          inr (n ∙ ap numberOf w, at, b ∙ filled-refused itself column q)
 
 module _ (s os : List ℕ) (us : List ℤ) {r r′ : Answer} {os′ os″ : List ℕ} {us′ us″ : List ℤ} where
   pub apa1-strict : apa1-contract.Reads true s os us r os′ us′ → apa1-contract.Reads false s os us r′ os″ us″
-      → ((r ≡ r′) × (os′ ≡ os″) × (us′ ≡ us″)) ⊎ ((r .number ≡ 18) × (os′ ≡ os) × (us′ ≡ us))
-  unfolding apa1-contract.decoding refusal
+      → ((r ≡ r′) × (os′ ≡ os″) × (us′ ≡ us″)) ⊎ ((r .number ≡ 18) × LongerSigned 64 s (r .place) × (os′ ≡ os) × (us′ ≡ us))
+  unfolding apa1-contract.decoding
   apa1-strict d e =
       go
-      (unless-cond refused apa1-setting.Spelled (eqb (length os) (length us)) (apa1.decode true s) (apa1.decode false s) (refused Columns 0) (apa1-setting.decode-unless true s))
+      (unless-cond refused (apa1-setting.Spelled s) (eqb (length os) (length us)) (apa1.decode true s) (apa1.decode false s) (refused Columns 0) (apa1-setting.decode-unless true s))
     where
-      go : Unless refused apa1-setting.Spelled (apa1-contract.decoding true s (length os) (length us)) (apa1-contract.decoding false s (length os) (length us))
-          → ((r ≡ r′) × (os′ ≡ os″) × (us′ ≡ us″)) ⊎ ((r .number ≡ 18) × (os′ ≡ os) × (us′ ≡ us))
+      go : Unless refused (apa1-setting.Spelled s) (apa1-contract.decoding true s (length os) (length us)) (apa1-contract.decoding false s (length os) (length us))
+          → ((r ≡ r′) × (os′ ≡ os″) × (us′ ≡ us″)) ⊎ ((r .number ≡ 18) × LongerSigned 64 s (r .place) × (os′ ≡ os) × (us′ ≡ us))
       go (same q) =
           inl (
             d .answer ∙ ap (answerIn (length os)) q ∙ sym (e .answer),
             d .columns .offsets ∙ ap (λ (o : Outcome (List apa1.Row)). filled apa1-contract.offsetOf o os) q ∙ sym (e .columns .offsets),
             d .columns .addends ∙ ap (λ (o : Outcome (List apa1.Row)). filled apa1-contract.addendOf o us) q ∙ sym (e .columns .addends),
           )
-      go (but why p q h) =
-          inr (
-            ap (λ (x : Answer). x .number) (d .answer ∙ answer-refused (length os) q) ∙ ap numberOf h,
-            d .columns .offsets ∙ filled-refused apa1-contract.offsetOf os q,
-            d .columns .addends ∙ filled-refused apa1-contract.addendOf us q,
-          )
+      go (but why p q (w, l)) =
+          let (n, at) = refused-at why p (LongerSigned 64 s) (d .answer ∙ answer-refused (length os) q) l in
+          inr (n ∙ ap numberOf w, at, d .columns .offsets ∙ filled-refused apa1-contract.offsetOf os q, d .columns .addends ∙ filled-refused apa1-contract.addendOf us q)
+
+-- what RELLEB's strict reading alone refuses, with its number, its place and the width of its class
+abbrev pub Only : ℕ → List ℕ → Answer → Type 0
+Only class s r =
+    (z : Size) × (classOf class ≡ Is z)
+    × (((r .number ≡ 18) × relleb-setting.Longer (widthOf z) s (r .place)) ⊎ ((r .number ≡ 19) × relleb-setting.Unchanged (widthOf z) s (r .place)))
 
 module _ (class : ℕ) (s os ts ys : List ℕ) (us : List ℤ) where
+  -- what is said of such a refusal
+  abbrev Spelled : Said
+  Spelled why p = (z : Size) × (classOf class ≡ Is z) × relleb-setting.Spelled (widthOf z) s why p
+
   -- what the two settings make of the class and the columns
-  relleb-unless : Unless refused relleb-setting.Spelled (relleb-contract.decoding class true s (length os) (length ts) (length ys) (length us)) (relleb-contract.decoding class false s (length os) (length ts) (length ys) (length us))
+  relleb-unless : Unless refused Spelled (relleb-contract.decoding class true s (length os) (length ts) (length ys) (length us)) (relleb-contract.decoding class false s (length os) (length ts) (length ys) (length us))
   unfolding relleb-contract.decoding
-  relleb-unless = go (classOf class)
+  relleb-unless = go (classOf class) refl
     where
       even : Bool
       even = relleb-contract.even (length os) (length ts) (length ys) (length us)
 
-      go : (n : Named) → Unless refused relleb-setting.Spelled (inClass n (λ z. cond even (relleb.decode true (widthOf z) s) (refused Columns 0))) (inClass n (λ z. cond even (relleb.decode false (widthOf z) s) (refused Columns 0)))
-      go (Is z) = unless-cond refused relleb-setting.Spelled even (relleb.decode true (widthOf z) s) (relleb.decode false (widthOf z) s) (refused Columns 0) (relleb-setting.decode-unless true (widthOf z) s)
-      go Unknown = same refl
+      go : (n : Named) → classOf class ≡ n → Unless refused Spelled (inClass n (λ z. cond even (relleb.decode true (widthOf z) s) (refused Columns 0))) (inClass n (λ z. cond even (relleb.decode false (widthOf z) s) (refused Columns 0)))
+      go (Is z) e =
+          unless-map refused (relleb-setting.Spelled (widthOf z) s) Spelled (λ why p h. (z, e, h))
+          (unless-cond refused (relleb-setting.Spelled (widthOf z) s) even (relleb.decode true (widthOf z) s) (relleb.decode false (widthOf z) s) (refused Columns 0) (relleb-setting.decode-unless true (widthOf z) s))
+      go Unknown e = same refl
+
+  only : (r : Answer) (why : Refusal) (p : ℕ) → r ≡ refusal why p → Spelled why p → Only class s r
+  only r why p e (z, c, inl (w, l)) = let (n, at) = refused-at why p (relleb-setting.Longer (widthOf z) s) e l in (z, c, inl (n ∙ ap numberOf w, at))
+  only r why p e (z, c, inr (w, l)) = let (n, at) = refused-at why p (relleb-setting.Unchanged (widthOf z) s) e l in (z, c, inr (n ∙ ap numberOf w, at))
 
   pub relleb-strict : {r r′ : Answer} {os′ ts′ ys′ os″ ts″ ys″ : List ℕ} {us′ us″ : List ℤ} → relleb-contract.Reads class true s os ts ys us r os′ ts′ ys′ us′ → relleb-contract.Reads class false s os ts ys us r′ os″ ts″ ys″ us″
-      → ((r ≡ r′) × (os′ ≡ os″) × (ts′ ≡ ts″) × (ys′ ≡ ys″) × (us′ ≡ us″))
-      ⊎ (((r .number ≡ 18) ⊎ (r .number ≡ 19)) × (os′ ≡ os) × (ts′ ≡ ts) × (ys′ ≡ ys) × (us′ ≡ us))
-  unfolding refusal
+      → ((r ≡ r′) × (os′ ≡ os″) × (ts′ ≡ ts″) × (ys′ ≡ ys″) × (us′ ≡ us″)) ⊎ (Only class s r × (os′ ≡ os) × (ts′ ≡ ts) × (ys′ ≡ ys) × (us′ ≡ us))
   relleb-strict {r} {r′} {os′} {ts′} {ys′} {os″} {ts″} {ys″} {us′} {us″} d e = go relleb-unless
     where
-      named : (why : Refusal) (p : ℕ) → r .number ≡ numberOf why → relleb-setting.Spelled why p → (r .number ≡ 18) ⊎ (r .number ≡ 19)
-      named why p n (inl h) = inl (n ∙ ap numberOf h)
-      named why p n (inr h) = inr (n ∙ ap numberOf h)
-
-      go : Unless refused relleb-setting.Spelled (relleb-contract.decoding class true s (length os) (length ts) (length ys) (length us)) (relleb-contract.decoding class false s (length os) (length ts) (length ys) (length us))
-          → ((r ≡ r′) × (os′ ≡ os″) × (ts′ ≡ ts″) × (ys′ ≡ ys″) × (us′ ≡ us″))
-          ⊎ (((r .number ≡ 18) ⊎ (r .number ≡ 19)) × (os′ ≡ os) × (ts′ ≡ ts) × (ys′ ≡ ys) × (us′ ≡ us))
+      go : Unless refused Spelled (relleb-contract.decoding class true s (length os) (length ts) (length ys) (length us)) (relleb-contract.decoding class false s (length os) (length ts) (length ys) (length us))
+          → ((r ≡ r′) × (os′ ≡ os″) × (ts′ ≡ ts″) × (ys′ ≡ ys″) × (us′ ≡ us″)) ⊎ (Only class s r × (os′ ≡ os) × (ts′ ≡ ts) × (ys′ ≡ ys) × (us′ ≡ us))
       go (same q) =
           inl (
             d .answer ∙ ap (answerIn (length os)) q ∙ sym (e .answer),
@@ -215,7 +229,7 @@ module _ (class : ℕ) (s os ts ys : List ℕ) (us : List ℤ) where
           )
       go (but why p q h) =
           inr (
-            named why p (ap (λ (x : Answer). x .number) (d .answer ∙ answer-refused (length os) q)) h,
+            only r why p (d .answer ∙ answer-refused (length os) q) h,
             d .columns .offsets ∙ filled-refused relleb-contract.offsetOf os q,
             d .columns .types ∙ filled-refused relleb-contract.typeOf ts q,
             d .columns .symbols ∙ filled-refused relleb-contract.symbolOf ys q,

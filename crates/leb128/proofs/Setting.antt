@@ -19,6 +19,7 @@ use Rattle.answer.specs.Written.{Written}
 use Rattle.answer.specs.declared.Refusal.{Refusal}
 use Rattle.answer.specs.declared.Refusal.the-variants.{Missing, Width, Padded}
 use Rattle.leb128.specs.Number.{raw, laxUnsigned, laxSigned, shortUnsigned, shortSigned, padded, unpaddedUnsigned, unpaddedSigned, readUnsigned, readSigned}
+use Rattle.leb128.specs.Longer.{LongerUnsigned, LongerSigned}
 use Rattle.leb128.specs.LastByte.{BadUnsigned, BadSigned, Guilty, OutsideUnsigned, OutsideSigned}
 use Rattle.leb128.specs.declared.Unsigned.{Unsigned}
 use Rattle.leb128.specs.declared.Unsigned.the-variants.{Value as UValue, Refused as URefused}
@@ -28,7 +29,7 @@ use Rattle.leb128.proofs.Reading.{count-is}
 use Rattle.leb128.proofs.RoundTrip.{read-short-unsigned, read-short-signed}
 use Rattle.leb128.proofs.Laws.{GoodUnsigned, GoodSigned, unsigned-good, signed-good}
 use Rattle.leb128.proofs.GuiltyByte.{unsigned-guilty, signed-guilty}
-use Rattle.leb128.proofs.Padding.{padded-not, strict-not, kept-unsigned, kept-signed, value-unsigned, value-signed}
+use Rattle.leb128.proofs.Padding.{padded-not, padded-more, strict-not, kept-unsigned, kept-signed, value-unsigned, value-signed}
 
 -- ---- what the setting lets through, and what it refuses
 module _ (t : Bool) (at : ℕ) where
@@ -163,31 +164,31 @@ module _ (B : ℕ) (s : List ℕ) (at : ℕ) where
   unfolding readSigned
   strict-most-signed {z} {next} e = omega (arith, strict-not (shortSigned z) (next - at) (let-signed true at (laxSigned B s at) e .1))
 
--- ---- what a setting reads is what lax reading does, unless it refuses a padded number
-module _ (P : Said) (says : (p : ℕ) → P Padded p) (t : Bool) (B : ℕ) (s : List ℕ) (at : ℕ) where
-  pub unless-unsigned : Unless URefused P (readUnsigned t B s at) (readUnsigned false B s at)
+-- ---- what a setting reads is what lax reading does, unless it refuses a number that is longer than its shortest form
+module _ (P : Said) (t : Bool) (B : ℕ) (s : List ℕ) (at : ℕ) where
+  pub unless-unsigned : (LongerUnsigned B s at → P Padded at) → Unless URefused P (readUnsigned t B s at) (readUnsigned false B s at)
   unfolding readUnsigned
-  unless-unsigned = go (laxUnsigned B s at)
+  unless-unsigned says = go (laxUnsigned B s at) refl
     where
-      go : (r : Unsigned) → Unless URefused P (unpaddedUnsigned t at r) (unpaddedUnsigned false at r)
-      go (URefused why p) = same refl
-      go (UValue v next) = of-test (padded t (shortUnsigned v) (next - at))
+      go : (r : Unsigned) → laxUnsigned B s at ≡ r → Unless URefused P (unpaddedUnsigned t at r) (unpaddedUnsigned false at r)
+      go (URefused why p) e = same refl
+      go (UValue v next) e = of-test (padded t (shortUnsigned v) (next - at)) refl
         where
-          of-test : (b : Bool) → Unless URefused P (cond b (URefused Padded at) (UValue v next)) (UValue v next)
-          of-test true = but Padded at refl (says at)
-          of-test false = same refl
+          of-test : (b : Bool) → padded t (shortUnsigned v) (next - at) ≡ b → Unless URefused P (cond b (URefused Padded at) (UValue v next)) (UValue v next)
+          of-test true f = but Padded at refl (says (record { value = v; next = next; read = e; longer = omega (arith, padded-more t (shortUnsigned v) (next - at) f) }))
+          of-test false f = same refl
 
-  pub unless-signed : Unless SRefused P (readSigned t B s at) (readSigned false B s at)
+  pub unless-signed : (LongerSigned B s at → P Padded at) → Unless SRefused P (readSigned t B s at) (readSigned false B s at)
   unfolding readSigned
-  unless-signed = go (laxSigned B s at)
+  unless-signed says = go (laxSigned B s at) refl
     where
-      go : (r : Signed) → Unless SRefused P (unpaddedSigned t at r) (unpaddedSigned false at r)
-      go (SRefused why p) = same refl
-      go (SValue z next) = of-test (padded t (shortSigned z) (next - at))
+      go : (r : Signed) → laxSigned B s at ≡ r → Unless SRefused P (unpaddedSigned t at r) (unpaddedSigned false at r)
+      go (SRefused why p) e = same refl
+      go (SValue z next) e = of-test (padded t (shortSigned z) (next - at)) refl
         where
-          of-test : (b : Bool) → Unless SRefused P (cond b (SRefused Padded at) (SValue z next)) (SValue z next)
-          of-test true = but Padded at refl (says at)
-          of-test false = same refl
+          of-test : (b : Bool) → padded t (shortSigned z) (next - at) ≡ b → Unless SRefused P (cond b (SRefused Padded at) (SValue z next)) (SValue z next)
+          of-test true f = but Padded at refl (says (record { value = z; next = next; read = e; longer = omega (arith, padded-more t (shortSigned z) (next - at) f) }))
+          of-test false f = same refl
 
 -- ---- the shortest form is read by either setting
 module _ (t : Bool) (B : ℕ) (s : List ℕ) (at : ℕ) (rest : List ℕ) (wide : 0 < B) where

@@ -12,30 +12,17 @@ use lib.IntN.{ℤ, pos, negsuc}
 use lib.Signed.{mag}
 use borrow.Author.Tests.{ltb-true, ltb-false}
 use Rattle.answer.specs.Bytes.{Bytes, bytes-drop, bytes-append}
-use Rattle.leb128.specs.Number.{Raw, cut, long, got, more, raw, count, lastPlace, unsignedOf, laxUnsigned, signed, signedOf, laxSigned, turn, short, shortUnsigned, isNeg, shortSigned, readUnsigned, readSigned}
+use Rattle.leb128.specs.Number.{Raw, cut, long, got, more, raw, count, lastPlace, unsignedOf, laxUnsigned, signed, signedOf, laxSigned, turn, short, shortBy, shortUnsigned, isNeg, shortSigned, readUnsigned, readSigned}
 use Rattle.leb128.specs.declared.Unsigned.the-variants.{Value as UValue, Refused as URefused}
 use Rattle.leb128.specs.declared.Signed.the-variants.{Value as SValue, Refused as SRefused}
 use Rattle.answer.specs.declared.Refusal.the-variants.{Width}
-use Rattle.leb128.proofs.Reading.{Ends, ends}
+use Rattle.leb128.proofs.Reading.{Ends, ends, rest-of}
 use Rattle.leb128.proofs.Writing.{turn-lt, digit-ind, short-end, short-more}
 use Rattle.leb128.proofs.RoundTrip.{val, raw-short, signed-short, unsigned-bytes, signed-bytes}
 use Rattle.leb128.proofs.Laws.{Below, below, shortest-unsigned, shortest-signed}
 use Rattle.leb128.proofs.Setting.{read-lax-unsigned, read-lax-signed, unsigned-value, signed-value, strict-most-unsigned, strict-most-signed}
 
 -- ---- the bytes of a number are fixed by how many they are and what they make
--- a digit and the rest of a number
-record Rest (d : ℕ) (r : Raw) (v k : ℕ) : Type 0 where
-  value : ℕ
-  size : ℕ
-  is : r ≡ got value size
-  made : v ≡ d + value * 128
-  long : k ≡ suc size
-
-rest-of : (d : ℕ) (r : Raw) {v k : ℕ} → more d r ≡ got v k → Rest d r v k
-rest-of d cut e = let z : _≡_ {A = ℕ} 0 1 = cc in absurd (omega arith)
-rest-of d long e = let z : _≡_ {A = ℕ} 0 1 = cc in absurd (omega arith)
-rest-of d (got u j) e = record { value = u; size = j; is = refl; made = cc; long = cc }
-
 -- a digit more than one is more than one
 longer : (d m : ℕ) (l : List ℕ) {v : ℕ} → more d (raw m l) ≡ got v 1 → ⊥
 longer d m l e =
@@ -71,6 +58,11 @@ short-bytes : (limit : ℕ) → 0 < limit → limit ≤ 128 → (neg : Bool) (m 
 short-bytes limit low high neg = digit-ind limit low (λ (m : ℕ). Bytes (short limit neg m))
     (λ m h. rw (short-end limit low neg m h) (omega (arith, turn-lt neg m (omega arith)), tt))
     (λ m h ih. rw (short-more limit low neg m h) (omega (arith, turn-lt neg (m % 128) (omega arith)), ih))
+
+-- 0 is the one byte 0
+pub zero-short : shortSigned (pos 0) ≡ 0 ∷ []
+unfolding short shortBy
+zero-short = refl
 
 -- ---- k digits are one signed number
 signed-one : (u w k : ℕ) → u < 2 ^ (7 * k) → w < 2 ^ (7 * k) → signed u k ≡ signed w k → u ≡ w

@@ -11,7 +11,7 @@ ghost use Rattle.records.specs.Reading.{records};
 ghost use Rattle.relleb_table.specs.Table.{state, start, noChange, withAddend, withSymbol, withType, stepAt, parse, decode};
 ghost use Rattle.relleb_table.specs.Contract.{Filled};
 ghost use Rattle.relleb_table.specs.Inner.{Fillable};
-ghost use Rattle.relleb_read.specs.Inner.{entryStep, changeAt, EndsAddend, EndsSymbol, EndsRecord, Skips};
+ghost use Rattle.relleb_read.specs.Inner.{entryStep, changeAt, Changes, EndsAddend, EndsSymbol, EndsRecord, Skips};
 use answer::Found;
 use answer::INPUT_LIMIT;
 use answer::Refusal;
@@ -177,19 +177,27 @@ fn skip_by_numbers(strict: bool, s: &[u8], at: usize, width: u32) -> Signed
     Signed::Value(field, past)
 }
 
+// Whether the byte 0 stands at a place, which is the shortest form of 0. It is asked strictly alone.
+fn zero_at(strict: bool, s: &[u8], at: usize) -> bool
+    ensures { λ r. ⌜ (r ≡ false → Changes strict (now (s .entry)) at) ⌝ }
+{
+    if strict {
+        if at < s.len() {
+            return s[at] == 0;
+        }
+    }
+    false
+}
+
 // The place past an addend's difference, which strictly may not be 0, or 0.
 fn end_addend(strict: bool, s: &[u8], at: usize, width: u32) -> usize
     requires { ⌜ IsWidth width ⌝ }
     ensures { λ r. ⌜ EndsAddend strict width (now (s .entry)) at r ⌝ }
 {
-    if strict {
-        let change = skip_addend(strict, s, at, width);
-        let Signed::Value(_, past) = change else {
-            return 0;
-        };
-        return past;
+    if zero_at(strict, s, at) {
+        return 0;
     }
-    leb128::end_number(false, s, at, width)
+    leb128::end_number(strict, s, at, width)
 }
 
 // The place past a symbol field, and past the addend's difference if it follows, or 0.

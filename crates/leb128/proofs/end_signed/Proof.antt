@@ -20,7 +20,7 @@ returns : tie.Need-returns
 returns c = search needs
 
 plain-signed-requires : tie.Need-plain-signed-requires
-plain-signed-requires c κs = (search answers, search needs)
+plain-signed-requires c κs = (search answers, search needs, search answers)
 
 cast-past : tie.Need-cast-past
 cast-past c = search needs

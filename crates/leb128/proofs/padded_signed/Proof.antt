@@ -1,42 +1,65 @@
 use borrow.Author.Needs.{needs}
-use Rattle.leb128.proofs.Padding.{paddings}
+use denote.Ref.{now}
+use Rattle.answer.specs.Bytes.{bytes-of}
+use Rattle.leb128.proofs.Padding.{one-signed, repeats-plus, repeats-minus, repeats-none, before-inside, before-fits, never-lax}
 use Rattle.leb128.proofs.padded_signed.Statement.{statement}
 use Rattle.leb128.proofs.padded_signed.Tie as tie
 use Rattle.leb128.proofs.padded_signed.Reads as reads
 use Rattle.leb128.proofs.padded_signed.Lts as lts
 
--- src/lib.rt:241:32
-mul-if3 : tie.Need-mul-if3
-mul-if3 c = search needs
+sub-result : tie.Need-sub-result
+sub-result c = search needs
 
--- src/lib.rt:241:32
-sub-if3 : tie.Need-sub-if3
-sub-if3 c = search needs
+add-result : tie.Need-add-result
+add-result c = before-fits _ _ _ _ _ (c .before .before .before .pre .1) (c .before .if2 .taken) (search needs)
 
--- src/lib.rt:241:32
-cast-if3 : tie.Need-cast-if3
-cast-if3 c = search needs
+shared-slice-read-result : tie.Need-shared-slice-read-result
+shared-slice-read-result c = before-inside _ _ _ _ _ (c .before .before .before .before .pre .1) (c .before .before .if2 .taken)
 
--- src/lib.rt:241:23
-shl-if3 : tie.Need-shl-if3
-shl-if3 c = search needs
-
--- src/lib.rt:242:17
 returns : tie.Need-returns
-returns c = search paddings
+returns c =
+    let begin = c .before .before .before .before in
+    repeats-plus (begin .args .strict) (now (begin .args .s)) (begin .args .at) _ _ (bytes-of (now (begin .args .s)) (λ i. c .shared-slice-known .given i .fits)) (c .before .before .before .if1 .taken) _ (begin .pre .0) (begin .pre .1)
+    (c .before .before .if2 .taken) (c .before .if3 .taken)
 
--- src/lib.rt:244:13
+sub-result-2 : tie.Need-sub-result-2
+sub-result-2 c = search needs
+
+add-result-2 : tie.Need-add-result-2
+add-result-2 c = before-fits _ _ _ _ _ (c .before .before .before .before .pre .1) (c .before .before .if2 .taken) (search needs)
+
+shared-slice-read-result-2 : tie.Need-shared-slice-read-result-2
+shared-slice-read-result-2 c = before-inside _ _ _ _ _ (c .before .before .before .before .before .pre .1) (c .before .before .before .if2 .taken)
+
 returns-2 : tie.Need-returns-2
-returns-2 c = search paddings
+returns-2 c =
+    let begin = c .before .before .before .before .before in
+    repeats-minus (begin .args .strict) (now (begin .args .s)) (begin .args .at) _ _ (bytes-of (now (begin .args .s)) (λ i. c .shared-slice-known2 .given i .fits)) (c .before .before .before .before .if1 .taken) _ (begin .pre .0) (begin .pre .1)
+    (c .before .before .before .if2 .taken) (c .before .if4 .taken)
 
--- src/lib.rt:246:9
 returns-3 : tie.Need-returns-3
-returns-3 c = search paddings
+returns-3 c =
+    let begin = c .before .before .before .before in
+    repeats-none (begin .args .strict) _ _ _ (begin .pre .0) (c .before .before .if2 .taken) (c .before .if3 .left) (c .if4 .left)
 
--- src/lib.rt:235:1
 returns-4 : tie.Need-returns-4
-returns-4 c = search needs
+returns-4 c = one-signed (c .before .before .args .strict) _ _ _ (c .before .before .pre .0) (c .if2 .left)
+
+returns-5 : tie.Need-returns-5
+returns-5 c = never-lax (c .before .args .strict) _ _ (c .if1 .left)
 
 pub padded-signed-spec : {M : Type 1} → statement M
 padded-signed-spec =
-    tie.close (tie.spec mul-if3 sub-if3 cast-if3 shl-if3 returns returns-2 returns-3 returns-4)
+    tie.close
+    (tie.spec
+    sub-result
+    add-result
+    shared-slice-read-result
+    returns
+    sub-result-2
+    add-result-2
+    shared-slice-read-result-2
+    returns-2
+    returns-3
+    returns-4
+    returns-5)
