@@ -1,5 +1,5 @@
 -- Document 02, §6, as theorems about the calls that read numbers:
---   KIND-lax     lax reading answers as before: its outcome is that of the definitions from before (specs/Lax.antt)
+--   KIND-lax     lax reading answers as before: a lax call meets the contract from before (specs/Lax.antt)
 --   KIND-strict  strict reading answers as lax reading does, and leaves the same in the columns, unless it refuses: with 18, and then at its place
 --                begins a number longer than its shortest form; RELLEB also with 19, and then there begins an addend's difference of 0
 -- That the writers meet the strict setting is KIND-back of Demands.antt, which is over the setting.
@@ -15,7 +15,7 @@ use lib.ListN.{length}
 use Rattle.answer.specs.declared.Answer.{Answer}
 use Rattle.answer.specs.declared.Refusal.{Refusal}
 use Rattle.answer.specs.declared.Refusal.the-variants.{Limit, Identifier, Space, Columns}
-use Rattle.answer.specs.Outcome.{Outcome, refused, numberOf, inputLimit, refusal, answerIn, filled, itself}
+use Rattle.answer.specs.Outcome.{Outcome, refused, numberOf, inputLimit, refusal, answerIn, filled, itself, Gives}
 use Rattle.answer.specs.Outcome.Laws.{answer-refused, filled-refused}
 use Rattle.answer.specs.Said.{Said}
 use Rattle.answer.specs.Unless.{Unless, same, but, unless-then, unless-cond, unless-map}
@@ -42,7 +42,7 @@ use Rattle.apa1_table.specs.Contract as apa1-contract
 use Rattle.relleb_table.specs.Table as relleb
 use Rattle.relleb_table.specs.Table.Setting as relleb-setting
 use Rattle.relleb_table.specs.Contract as relleb-contract
-use Rattle.demands.specs.Lax.{pairFirst, pairAt, withFirst, withCount, apr1Decode, rowFirst, rowAt, countOf, apa1Decode, withAddend, withSymbol, withType, withOffset, recordAt, rellebDecode}
+use Rattle.demands.specs.Lax.{pairFirst, pairAt, withFirst, withCount, apr1Decode, Apr1Reads, rowFirst, rowAt, countOf, apa1Decode, apa1Decoding, Apa1Reads, withAddend, withSymbol, withType, withOffset, recordAt, rellebDecode, rellebDecoding, RellebReads}
 
 -- of no refusal
 abbrev Never : Said
@@ -76,12 +76,15 @@ module _ (s : List ℕ) where
       unless-then URefused refused Never (apr1.withFirst false s n next) (withFirst s n next) (λ why p. refl) (offset-lax n next) (readUnsigned false 32 s next) (laxUnsigned 32 s next) (same (lax-unsigned 32 s next))
   count-lax (URefused why p) = same refl
 
-  pub apr1-lax : apr1.decode false s ≡ apr1Decode s
+  apr1-before : apr1.decode false s ≡ apr1Decode s
   unfolding apr1.decode apr1.parse apr1.withCount apr1Decode
-  apr1-lax =
+  apr1-before =
       let at = length apr1.identifier in
       ap (λ (o : Outcome (List ℕ)). cond (leb (length s) inputLimit) (cond (startsWith apr1.identifier s) o (refused Identifier 0)) (refused Limit 0))
       (never (unless-then URefused refused Never (apr1.withCount false s) (withCount s) (λ why p. refl) count-lax (readUnsigned false 32 s at) (laxUnsigned 32 s at) (same (lax-unsigned 32 s at))))
+
+  pub apr1-lax : {column new : List ℕ} {r : Answer} → apr1-contract.Reads false s column r new → Apr1Reads s column r new
+  apr1-lax {column} {new} {r} d = subst (λ (o : Outcome (List ℕ)). Gives o column r new) apr1-before d
 
 -- ---- APA1
 module _ (s : List ℕ) where
@@ -107,11 +110,17 @@ module _ (s : List ℕ) where
       let at = length apa1.identifier in
       ap (λ (u : Unsigned). cond (startsWith apa1.identifier s) u (URefused Identifier 0)) (number-lax (readSigned false 64 s at) ∙ ap countOf (lax-signed 64 s at))
 
-  pub apa1-lax : apa1.decode false s ≡ apa1Decode s
+  apa1-before : apa1.decode false s ≡ apa1Decode s
   unfolding apa1.decode apa1.parse apa1Decode
-  apa1-lax =
+  apa1-before =
       ap (λ (o : Outcome (List apa1.Row)). cond (leb (length s) inputLimit) o (refused Limit 0))
       (never (unless-counted Never (apa1.stepAt false s) (rowAt s) (length s) row-lax apa1.start (apa1.headAt false s) _ (same head-lax)))
+
+  pub apa1-lax : {os os′ : List ℕ} {us us′ : List ℤ} {r : Answer} → apa1-contract.Reads false s os us r os′ us′ → Apa1Reads s os us r os′ us′
+  unfolding apa1-contract.decoding apa1Decoding
+  apa1-lax {os} {os′} {us} {us′} d =
+      let e : apa1-contract.decoding false s (length os) (length us) ≡ apa1Decoding s (length os) (length us) = ap (λ (o : Outcome (List apa1.Row)). cond (eqb (length os) (length us)) o (refused Columns 0)) apa1-before in
+      record { answer = d .answer ∙ ap (answerIn (length os)) e; columns = subst (λ (o : Outcome (List apa1.Row)). apa1-contract.Filled o os us os′ us′) e (d .columns) }
 
 -- ---- RELLEB
 module _ (W : ℕ) (s : List ℕ) where
@@ -140,11 +149,27 @@ module _ (W : ℕ) (s : List ℕ) where
   unfolding relleb.stepAt recordAt
   record-lax at prev = same (ap (relleb.withOffset false W s prev) (lax-unsigned W s at) ∙ move-lax prev (laxUnsigned W s at))
 
-  pub relleb-lax : relleb.decode false W s ≡ rellebDecode W s
+  relleb-before : relleb.decode false W s ≡ rellebDecode W s
   unfolding relleb.decode relleb.parse rellebDecode
-  relleb-lax =
+  relleb-before =
       ap (λ (o : Outcome (List relleb.Row)). cond (leb (length s) inputLimit) o (refused Limit 0))
       (never (unless-counted Never (relleb.stepAt false W s) (recordAt W s) (length s) record-lax relleb.start (readUnsigned false 64 s 0) (laxUnsigned 64 s 0) (same (lax-unsigned 64 s 0))))
+
+module _ (class : ℕ) (s os ts ys : List ℕ) (us : List ℤ) {r : Answer} {os′ ts′ ys′ : List ℕ} {us′ : List ℤ} where
+  pub relleb-lax : relleb-contract.Reads class false s os ts ys us r os′ ts′ ys′ us′ → RellebReads class s os ts ys us r os′ ts′ ys′ us′
+  unfolding relleb-contract.decoding rellebDecoding
+  relleb-lax d =
+      record { answer = d .answer ∙ ap (answerIn (length os)) as-before; columns = subst (λ (o : Outcome (List relleb.Row)). relleb-contract.Filled o os ts ys us os′ ts′ ys′ us′) as-before (d .columns) }
+    where
+      even : Bool
+      even = relleb-contract.even (length os) (length ts) (length ys) (length us)
+
+      go : (n : Named) → inClass n (λ z. cond even (relleb.decode false (widthOf z) s) (refused Columns 0)) ≡ inClass n (λ z. cond even (rellebDecode (widthOf z) s) (refused Columns 0))
+      go (Is z) = ap (λ (o : Outcome (List relleb.Row)). cond even o (refused Columns 0)) (relleb-before (widthOf z) s)
+      go Unknown = refl
+
+      as-before : relleb-contract.decoding class false s (length os) (length ts) (length ys) (length us) ≡ rellebDecoding class s (length os) (length ts) (length ys) (length us)
+      as-before = go (classOf class)
 
 -- ---- strict reading against lax
 -- a refused answer has the refusal's number and its place

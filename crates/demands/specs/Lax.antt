@@ -3,12 +3,14 @@
 -- Assumes nothing.
 use Prim.Native.Nat.{ℕ, _+_, _%_, _^_}
 use mathlib.Core.List.{List}
+use mathlib.Core.Path.{_≡_}
 use mathlib.Core.Bool.{cond}
-use lib.Dec.{leb}
+use lib.Dec.{leb, eqb}
 use lib.IntN.{ℤ, pos, negsuc, _+ℤ_}
 use lib.ListN.{length}
-use Rattle.answer.specs.declared.Refusal.the-variants.{Identifier, Width, Space}
-use Rattle.answer.specs.Outcome.{Outcome, refused, inputLimit, limited}
+use Rattle.answer.specs.declared.Answer.{Answer}
+use Rattle.answer.specs.declared.Refusal.the-variants.{Identifier, Width, Space, Columns}
+use Rattle.answer.specs.Outcome.{Outcome, refused, inputLimit, limited, answerIn, Gives}
 use Rattle.leb128.specs.Number.{laxUnsigned, laxSigned}
 use Rattle.leb128.specs.declared.Signed.{Signed}
 use Rattle.leb128.specs.declared.Signed.the-variants.{Value, Refused}
@@ -19,7 +21,10 @@ use Rattle.records.specs.Reading.{Step, one, none, records, counted}
 use Rattle.wrap.specs.Wrap.{residue, wrapped}
 use Rattle.apr1_table.specs.Table as apr1
 use Rattle.apa1_table.specs.Table as apa1
+use Rattle.apa1_table.specs.Contract as apa1-contract
 use Rattle.relleb_table.specs.Table as relleb
+use Rattle.relleb_table.specs.Contract as relleb-contract
+use Rattle.word.specs.Class.{widthOf, classOf, inClass}
 
 -- ---- APR1
 
@@ -46,6 +51,10 @@ unfoldable pub apr1Decode : List ℕ → Outcome (List ℕ)
 apr1Decode s =
     limited inputLimit (length s) (cond (startsWith apr1.identifier s) (withCount s (laxUnsigned 32 s (length apr1.identifier))) (refused Identifier 0))
 
+-- `read` of the table s answers r, and leaves `new` in a column that held `old`
+abbrev pub Apr1Reads : List ℕ → List ℕ → Answer → List ℕ → Type 0
+Apr1Reads s old r new = Gives (apr1Decode s) old r new
+
 -- ---- APA1
 
 -- the record at a place: two signed numbers of 64 bits
@@ -67,6 +76,15 @@ unfoldable pub apa1Decode : List ℕ → Outcome (List apa1.Row)
 apa1Decode s =
     limited inputLimit (length s)
     (counted (rowAt s) (length s) apa1.start (cond (startsWith apa1.identifier s) (countOf (laxSigned 64 s (length apa1.identifier))) (URefused Identifier 0)))
+
+-- the outcome of a read into columns of m and k elements: every refusal but 9
+unfoldable pub apa1Decoding : List ℕ → ℕ → ℕ → Outcome (List apa1.Row)
+apa1Decoding s m k = cond (eqb m k) (apa1Decode s) (refused Columns 0)
+
+-- a read of the table s into columns that held os and us: it answers r, and the columns hold os′ and us′
+pub record Apa1Reads (s os : List ℕ) (us : List ℤ) (r : Answer) (os′ : List ℕ) (us′ : List ℤ) : Type 0 where
+  pub answer : r ≡ answerIn (length os) (apa1Decoding s (length os) (length us))
+  pub columns : apa1-contract.Filled (apa1Decoding s (length os) (length us)) os us os′ us′
 
 -- ---- RELLEB
 
@@ -98,3 +116,12 @@ recordAt W s at prev = withOffset W s prev (laxUnsigned W s at)
 -- the list that a table decodes to, or its refusal
 unfoldable pub rellebDecode : ℕ → List ℕ → Outcome (List relleb.Row)
 rellebDecode W s = limited inputLimit (length s) (counted (recordAt W s) (length s) relleb.start (laxUnsigned 64 s 0))
+
+-- the outcome of a read in a class into columns of a, b, c and d elements: every refusal but 9
+unfoldable pub rellebDecoding : ℕ → List ℕ → ℕ → ℕ → ℕ → ℕ → Outcome (List relleb.Row)
+rellebDecoding class s a b c d = inClass (classOf class) λ z. cond (relleb-contract.even a b c d) (rellebDecode (widthOf z) s) (refused Columns 0)
+
+-- a read of the table s into columns that held os, ts, ys and us: it answers r, and the columns hold os′, ts′, ys′ and us′
+pub record RellebReads (class : ℕ) (s os ts ys : List ℕ) (us : List ℤ) (r : Answer) (os′ ts′ ys′ : List ℕ) (us′ : List ℤ) : Type 0 where
+  pub answer : r ≡ answerIn (length os) (rellebDecoding class s (length os) (length ts) (length ys) (length us))
+  pub columns : relleb-contract.Filled (rellebDecoding class s (length os) (length ts) (length ys) (length us)) os ts ys us os′ ts′ ys′ us′

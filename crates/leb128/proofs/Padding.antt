@@ -228,7 +228,7 @@ repeats-none true low (suc j) b e h n m = elim (decLt low (64 * 2 ^ (7 * j))) [
 pub never-lax : (t : Bool) (l : List ℕ) (n : ℕ) → t ≡ false → false ≡ padded t l n
 never-lax t l n e = rw e refl
 
-pub ruleset paddings = (one-unsigned, one-signed, more-unsigned, needs)
+pub ruleset paddings = (one-unsigned, more-unsigned, needs)
 
 -- ---- what stands at a place, by the setting: what is refused, a value in its shortest form, and one that is longer
 module _ (t : Bool) (B : ℕ) (s : List ℕ) (at : ℕ) where

@@ -32,49 +32,34 @@ use Rattle.leb128.proofs.GuiltyByte.{unsigned-guilty, signed-guilty}
 use Rattle.leb128.proofs.Padding.{padded-not, padded-more, strict-not, kept-unsigned, kept-signed, value-unsigned, value-signed}
 
 -- ---- what the setting lets through, and what it refuses
+-- what a test makes, by the test
+either : {X : Type 0} (Q : Type 0) (b : Bool) (x y : X) {z : X} → cond b x y ≡ z → (b ≡ true → x ≡ z → Q) → (b ≡ false → y ≡ z → Q) → Q
+either Q true x y e f g = f refl e
+either Q false x y e f g = g refl e
+
 module _ (t : Bool) (at : ℕ) where
   -- a number that is read, and not longer than its shortest form if that is asked
   let-unsigned : {v next : ℕ} (r : Unsigned) → unpaddedUnsigned t at r ≡ UValue v next → (r ≡ UValue v next) × (padded t (shortUnsigned v) (next - at) ≡ false)
-  let-unsigned (URefused why p) e = let z : _≡_ {A = ℕ} 0 1 = cc in absurd (omega arith)
-  let-unsigned {v} {next} (UValue u past) e = go (padded t (shortUnsigned u) (past - at)) refl e
-    where
-      go : (b : Bool) → padded t (shortUnsigned u) (past - at) ≡ b → cond b (URefused Padded at) (UValue u past) ≡ UValue v next
-          → (UValue u past ≡ UValue v next) × (padded t (shortUnsigned v) (next - at) ≡ false)
-      go true f e = let z : _≡_ {A = ℕ} 0 1 = cc in absurd (omega arith)
-      go false f e =
-          let a : u ≡ v = cc in
-          let b : past ≡ next = cc in
-          (e, rw (← a, ← b) f)
+  let-unsigned (URefused why p) e = let o : _≡_ {A = ℕ} 0 1 = cc in absurd (omega arith)
+  let-unsigned {v} {next} (UValue u past) e =
+      either _ (padded t (shortUnsigned u) (past - at)) (URefused Padded at) (UValue u past) e (λ f q. (let o : _≡_ {A = ℕ} 0 1 = cc in absurd (omega arith)))
+      (λ f q. (let a : u ≡ v = cc in let b : past ≡ next = cc in (q, rw (← a, ← b) f)))
 
   let-signed : {z : ℤ} {next : ℕ} (r : Signed) → unpaddedSigned t at r ≡ SValue z next → (r ≡ SValue z next) × (padded t (shortSigned z) (next - at) ≡ false)
   let-signed (SRefused why p) e = let o : _≡_ {A = ℕ} 0 1 = cc in absurd (omega arith)
-  let-signed {z} {next} (SValue y past) e = go (padded t (shortSigned y) (past - at)) refl e
-    where
-      go : (b : Bool) → padded t (shortSigned y) (past - at) ≡ b → cond b (SRefused Padded at) (SValue y past) ≡ SValue z next
-          → (SValue y past ≡ SValue z next) × (padded t (shortSigned z) (next - at) ≡ false)
-      go true f e = let o : _≡_ {A = ℕ} 0 1 = cc in absurd (omega arith)
-      go false f e =
-          let a : y ≡ z = cc in
-          let b : past ≡ next = cc in
-          (e, rw (← a, ← b) f)
+  let-signed {z} {next} (SValue y past) e =
+      either _ (padded t (shortSigned y) (past - at)) (SRefused Padded at) (SValue y past) e (λ f q. (let o : _≡_ {A = ℕ} 0 1 = cc in absurd (omega arith)))
+      (λ f q. (let a : y ≡ z = cc in let b : past ≡ next = cc in (q, rw (← a, ← b) f)))
 
   -- a refusal is that of what was read, or that of a padded number at its first byte
   module _ (Q : Type 0) {why : Refusal} {p : ℕ} where
     not-unsigned : (r : Unsigned) → unpaddedUnsigned t at r ≡ URefused why p → (r ≡ URefused why p → Q) → ((v next : ℕ) → why ≡ Padded → p ≡ at → r ≡ UValue v next → Q) → Q
     not-unsigned (URefused w q) e f g = f e
-    not-unsigned (UValue u past) e f g = go (padded t (shortUnsigned u) (past - at)) e
-      where
-        go : (b : Bool) → cond b (URefused Padded at) (UValue u past) ≡ URefused why p → Q
-        go true e = g u past (cc) (cc) refl
-        go false e = f e
+    not-unsigned (UValue v past) e f g = either Q (padded t (shortUnsigned v) (past - at)) (URefused Padded at) (UValue v past) e (λ b q. g v past (cc) (cc) refl) (λ b q. f q)
 
     not-signed : (r : Signed) → unpaddedSigned t at r ≡ SRefused why p → (r ≡ SRefused why p → Q) → ((z : ℤ) (next : ℕ) → why ≡ Padded → p ≡ at → r ≡ SValue z next → Q) → Q
     not-signed (SRefused w q) e f g = f e
-    not-signed (SValue y past) e f g = go (padded t (shortSigned y) (past - at)) e
-      where
-        go : (b : Bool) → cond b (SRefused Padded at) (SValue y past) ≡ SRefused why p → Q
-        go true e = g y past (cc) (cc) refl
-        go false e = f e
+    not-signed (SValue z past) e f g = either Q (padded t (shortSigned z) (past - at)) (SRefused Padded at) (SValue z past) e (λ b q. g z past (cc) (cc) refl) (λ b q. f q)
 
 -- ---- lax reading takes every form
 module _ (B : ℕ) (s : List ℕ) (at : ℕ) where
@@ -165,6 +150,14 @@ module _ (B : ℕ) (s : List ℕ) (at : ℕ) where
   strict-most-signed {z} {next} e = omega (arith, strict-not (shortSigned z) (next - at) (let-signed true at (laxSigned B s at) e .1))
 
 -- ---- what a setting reads is what lax reading does, unless it refuses a number that is longer than its shortest form
+-- of what was read in n bytes, against a shortest form
+unless-padded : {X : Type 0} (bad : Refusal → ℕ → X) (P : Said) (t : Bool) (l : List ℕ) (n at : ℕ) (x : X) → (length l < n → P Padded at) → Unless bad P (cond (padded t l n) (bad Padded at) x) x
+unless-padded bad P t l n at x says = go (padded t l n) refl
+  where
+    go : (b : Bool) → padded t l n ≡ b → Unless bad P (cond b (bad Padded at) x) x
+    go true f = but Padded at refl (says (padded-more t l n f))
+    go false f = same refl
+
 module _ (P : Said) (t : Bool) (B : ℕ) (s : List ℕ) (at : ℕ) where
   pub unless-unsigned : (LongerUnsigned B s at → P Padded at) → Unless URefused P (readUnsigned t B s at) (readUnsigned false B s at)
   unfolding readUnsigned
@@ -172,11 +165,7 @@ module _ (P : Said) (t : Bool) (B : ℕ) (s : List ℕ) (at : ℕ) where
     where
       go : (r : Unsigned) → laxUnsigned B s at ≡ r → Unless URefused P (unpaddedUnsigned t at r) (unpaddedUnsigned false at r)
       go (URefused why p) e = same refl
-      go (UValue v next) e = of-test (padded t (shortUnsigned v) (next - at)) refl
-        where
-          of-test : (b : Bool) → padded t (shortUnsigned v) (next - at) ≡ b → Unless URefused P (cond b (URefused Padded at) (UValue v next)) (UValue v next)
-          of-test true f = but Padded at refl (says (record { value = v; next = next; read = e; longer = omega (arith, padded-more t (shortUnsigned v) (next - at) f) }))
-          of-test false f = same refl
+      go (UValue v next) e = unless-padded URefused P t (shortUnsigned v) (next - at) at (UValue v next) (λ h. says (record { value = v; next = next; read = e; longer = omega arith }))
 
   pub unless-signed : (LongerSigned B s at → P Padded at) → Unless SRefused P (readSigned t B s at) (readSigned false B s at)
   unfolding readSigned
@@ -184,11 +173,7 @@ module _ (P : Said) (t : Bool) (B : ℕ) (s : List ℕ) (at : ℕ) where
     where
       go : (r : Signed) → laxSigned B s at ≡ r → Unless SRefused P (unpaddedSigned t at r) (unpaddedSigned false at r)
       go (SRefused why p) e = same refl
-      go (SValue z next) e = of-test (padded t (shortSigned z) (next - at)) refl
-        where
-          of-test : (b : Bool) → padded t (shortSigned z) (next - at) ≡ b → Unless SRefused P (cond b (SRefused Padded at) (SValue z next)) (SValue z next)
-          of-test true f = but Padded at refl (says (record { value = z; next = next; read = e; longer = omega (arith, padded-more t (shortSigned z) (next - at) f) }))
-          of-test false f = same refl
+      go (SValue z next) e = unless-padded SRefused P t (shortSigned z) (next - at) at (SValue z next) (λ h. says (record { value = z; next = next; read = e; longer = omega arith }))
 
 -- ---- the shortest form is read by either setting
 module _ (t : Bool) (B : ℕ) (s : List ℕ) (at : ℕ) (rest : List ℕ) (wide : 0 < B) where
