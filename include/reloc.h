@@ -20,7 +20,11 @@
  * its shortest form is refused, and a RELLEB addend difference of zero too. Both
  * are accepted, so no refusal speaks of the setting itself. A table that is
  * accepted strictly is read as the same list lax; every table of these kinds that
- * the library writes is accepted strictly.
+ * the library writes is accepted strictly. Of APA1, and of RELLEB in each class, no
+ * other is: a list of at most RELOC_LIST_LIMIT records has one table that is
+ * accepted strictly, the one that is written of it, so equal lists have equal bytes.
+ * Not so of APR1, where a run can be split, nor of RELR, to which an empty bitmap
+ * can be added.
  *
  * A buffer is passed as a pointer and a count of elements: bytes for a table or
  * an image, entries for a column. A buffer reached through a pointer to const is
@@ -106,8 +110,8 @@ extern "C" {
  *
  *     if (reloc_version() != RELOC_VERSION) the header is not the library's
  */
-#define RELOC_VERSION 7000u
-#define RELOC_VERSION_TEXT "0.7.0"
+#define RELOC_VERSION 7001u
+#define RELOC_VERSION_TEXT "0.7.1"
 
 /* The version of the library, as RELOC_VERSION. */
 RELOC_NODISCARD

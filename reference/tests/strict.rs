@@ -1,6 +1,6 @@
 //! Strict reading beside lax reading, over the corpus and over random tables.
 
-use reference::corpus::again::again;
+use reference::corpus::again::{AGAIN, again};
 use reference::corpus::all;
 use reference::corpus::build::{Build, need};
 use reference::corpus::calls::{APA1_READ, APR1_READ, RELLEB_READ, Setting};
@@ -139,7 +139,7 @@ fn another_spelling() {
 #[test]
 fn written_again() {
     let mut rng = Rng::new(23);
-    for (call, class) in [(APA1_READ, 0), (RELLEB_READ, 4), (RELLEB_READ, 8)] {
+    for (call, class, _) in AGAIN {
         for _ in 0..ROUNDS {
             let read = accepted(&mut rng, call, class);
             let write = again(&read).expect("a list to write");

@@ -32,7 +32,10 @@
 //! number may be padded; true is strict, where a number longer than its shortest
 //! form is refused ([`Kind::Padded`]), and a RELLEB addend difference of zero too
 //! ([`Kind::Zero`]). A table that is accepted strictly is read as the same list lax;
-//! every table of these kinds that the library writes is accepted strictly.
+//! every table of these kinds that the library writes is accepted strictly. Of APA1,
+//! and of RELLEB in each class, no other is: a list of at most [`LIST_LIMIT`] records
+//! has one table that is accepted strictly, the one that is written of it. Not so of
+//! APR1, where a run can be split, nor of RELR, to which an empty bitmap can be added.
 //!
 //! ```
 //! use reloc::{Kind, apr1_read};
@@ -77,7 +80,7 @@ impl ByteOrder {
 }
 
 /// The version of this wrapper: major × 1,000,000 + minor × 1,000 + patch.
-pub const VERSION: u32 = 7_000;
+pub const VERSION: u32 = 7_001;
 
 /// The longest table that is read or applied, in bytes.
 pub const INPUT_LIMIT: usize = 134_217_728;

@@ -40,22 +40,22 @@ module _ (strict : Bool) (s : List ℕ) where
   unfolding stepAt
   moves at prev = first-moves prev at (readSigned strict 64 s at) refl
 
-  plain-ends : (u : Signed) → readSigned strict 64 s (length identifier) ≡ u → Ends (length s) (plain u)
+  plain-ends : (strict : Bool) (u : Signed) → readSigned strict 64 s (length identifier) ≡ u → Ends (length s) (plain u)
   unfolding plain
-  plain-ends (Value z next) e = signed-value strict 64 s (length identifier) z next e .2
-  plain-ends (Refused why p) e = tt
+  plain-ends strict (Value z next) e = signed-value strict 64 s (length identifier) z next e .2
+  plain-ends strict (Refused why p) e = tt
 
-  count-ends : (u : Signed) → Ends (length s) (countOf u (readSigned strict 64 s (length identifier)))
+  count-ends : (strict : Bool) (u : Signed) → Ends (length s) (countOf u (readSigned strict 64 s (length identifier)))
   unfolding countOf
-  count-ends (Value (pos n) next) = plain-ends (readSigned strict 64 s (length identifier)) refl
-  count-ends (Value (negsuc n) next) = tt
-  count-ends (Refused why p) = tt
+  count-ends strict (Value (pos n) next) = plain-ends strict (readSigned strict 64 s (length identifier)) refl
+  count-ends strict (Value (negsuc n) next) = tt
+  count-ends strict (Refused why p) = tt
 
   head-ends : Ends (length s) (headAt strict s)
   unfolding headAt
   head-ends =
       let at = length identifier in
-      of-cond (Ends (length s)) (startsWith identifier s) (countOf (readSigned false 64 s at) (readSigned strict 64 s at)) (URefused _ 0) (count-ends (readSigned false 64 s at)) tt
+      of-cond (Ends (length s)) (startsWith identifier s) (countOf (readSigned false 64 s at) _) (URefused _ 0) (count-ends _ (readSigned false 64 s at)) tt
 
   most : length s ≤ inputLimit → OfList (λ (l : List Row). length l ≤ inputLimit / 2) (parse strict s)
   unfolding parse

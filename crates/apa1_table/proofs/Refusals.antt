@@ -47,8 +47,8 @@ module _ (P : Said) (strict : Bool) (s : List ℕ) (named : P Identifier 0) (num
   unfolding headAt
   head =
       let at = length identifier in
-      of-cond (OfUnsigned P) (startsWith identifier s) (countOf (readSigned false 64 s at) (readSigned strict 64 s at)) (URefused Identifier 0)
-      (counts (readSigned false 64 s at) (readSigned strict 64 s at) refl (number false at) (number strict at)) named
+      of-cond (OfUnsigned P) (startsWith identifier s) (countOf (readSigned false 64 s at) _) (URefused Identifier 0)
+      (counts (readSigned false 64 s at) _ refl (number false at) (number _ at)) named
 
   pub of-parse : OfOutcome P (parse strict s)
   unfolding parse

@@ -84,7 +84,7 @@ parse-build strict l {b} few fine e =
     let r : (strict : Bool) → readSigned strict 64 b 4 ≡ Value (pos (length l)) (length (headOf (length l))) =
     (λ strict. signed-here strict 64 b identifier (c .rest) 4 (omega arith) refl (pos (length l)) few p ∙ ap (λ (m : List ℕ). Value (pos (length l)) (length m)) (sym (head-bytes (length l)))) in
     let h : headAt strict b ≡ UValue (length l) (length (headOf (length l))) =
-    head-is strict b i (r false) ∙ count-other (pos (length l)) _ _ refl ∙ ap plain (r strict) ∙ plain-is (pos (length l)) _ in
+    head-is strict b i (r false) ∙ count-other (pos (length l)) _ _ refl ∙ ap plain (r _) ∙ plain-is (pos (length l)) _ in
     parse-is strict b ∙ counted-records (stepAt strict b) (length b) start h ∙
     rw (c .whole) (back (stepAt strict) putOf behind (λ (x : Row). Unit {0}) Fine (record-back strict) l 0 start (headOf (length l)) tt fine (c .is))
 

@@ -65,7 +65,7 @@ module _ {o : Outcome (List ℕ)} {old new : List ℕ} {w : Answer} (f : Fitting
   front = let e : accepted (take (w .count) new) ≡ accepted (f .list) = sym (gives-zero g wrote-zero) ∙ f .is in cc
 
 -- a column with room for an accepted list begins with a field of its records
-begins : {A B : Type 0} (f : A → B) {o : Outcome (List A)} (old : List B) {new : List B} {l : List A} → o ≡ accepted l → length l ≤ length old → new ≡ filled f o old
+pub begins : {A B : Type 0} (f : A → B) {o : Outcome (List A)} (old : List B) {new : List B} {l : List A} → o ≡ accepted l → length l ≤ length old → new ≡ filled f o old
     → take (length l) new ≡ map f l
 begins f old {l = l} e h g = rw (g, filled-fits f old e h) (take-at (map f l) (drop (length l) old) (length l) (length-map l f))
 

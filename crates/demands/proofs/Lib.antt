@@ -5,3 +5,4 @@ pub mod ImageStart
 pub mod ByteOrders
 pub mod Moving
 pub mod Strict
+pub mod OneTable

@@ -5,3 +5,4 @@ pub mod LowFirst
 pub mod Reversed
 pub mod Moving
 pub mod Lax
+pub mod OneTable

@@ -5,3 +5,4 @@ pub mod Identifier
 pub mod Refusals
 pub mod Bounds
 pub mod Unless
+pub mod Converse

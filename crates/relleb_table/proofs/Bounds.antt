@@ -57,26 +57,26 @@ module _ (strict : Bool) (W : ℕ) (s : List ℕ) where
   unfolding stepAt
   moves at prev = offset-moves prev at (readUnsigned strict W s at) refl
 
-  count-ends : (u : Unsigned) → readUnsigned strict 64 s 0 ≡ u → Ends (length s) u
-  count-ends (UValue n first) e = unsigned-value strict 64 s 0 n first e .2
-  count-ends (URefused why p) e = tt
+  count-ends : (strict : Bool) (u : Unsigned) → readUnsigned strict 64 s 0 ≡ u → Ends (length s) u
+  count-ends strict (UValue n first) e = unsigned-value strict 64 s 0 n first e .2
+  count-ends strict (URefused why p) e = tt
 
   most : length s ≤ inputLimit → OfList (λ (l : List Row). length l ≤ inputLimit / 3) (parse strict W s)
   unfolding parse
   most h =
       list-map (λ (l : List Row). 3 * length l ≤ length s) (λ (l : List Row). length l ≤ inputLimit / 3) (parse strict W s) (λ l k. omega arith)
-      (counted-most (stepAt strict W s) (length s) 3 (length s) moves start (readUnsigned strict 64 s 0) (count-ends (readUnsigned strict 64 s 0) refl))
+      (counted-most (stepAt strict W s) (length s) 3 (length s) moves start _ (count-ends _ _ refl))
 
   module _ (wide : 0 < W) (bytes : Bytes s) where
-    unsigned : (B at : ℕ) → 0 < B → length s ≤ inputLimit → OfUnsigned (AtMost inputLimit) (readUnsigned strict B s at)
-    unsigned B at w h = of-unsigned (AtMost inputLimit) (readUnsigned strict B s at) (λ why p e. omega (arith, unsigned-place strict B s at w bytes e))
+    unsigned : (strict : Bool) (B at : ℕ) → 0 < B → length s ≤ inputLimit → OfUnsigned (AtMost inputLimit) (readUnsigned strict B s at)
+    unsigned strict B at w h = of-unsigned (AtMost inputLimit) (readUnsigned strict B s at) (λ why p e. omega (arith, unsigned-place strict B s at w bytes e))
 
     signed : (B at : ℕ) → 0 < B → length s ≤ inputLimit → OfSigned (AtMost inputLimit) (readSigned strict B s at)
     signed B at w h = of-signed (AtMost inputLimit) (readSigned strict B s at) (λ why p e. omega (arith, signed-place strict B s at w bytes e))
 
     places : length s ≤ inputLimit → OfOutcome (AtMost inputLimit) (parse strict W s)
     places h =
-        of-parse (AtMost inputLimit) strict W s (unsigned 64 0 (omega arith) h) (λ at. unsigned W at wide h) (λ at. signed 32 at (omega arith) h) (λ at. signed 33 at (omega arith) h)
+        of-parse (AtMost inputLimit) strict W s (λ strict. unsigned strict 64 0 (omega arith) h) (λ at. unsigned strict W at wide h) (λ at. signed 32 at (omega arith) h) (λ at. signed 33 at (omega arith) h)
         (λ at. signed W at wide h) (λ at past e f. omega (arith, signed-value strict W s at e past f)) (λ at k. omega arith)
 
     pub decode-bounded : Bounded inputLimit (inputLimit / 3) (decode strict W s)

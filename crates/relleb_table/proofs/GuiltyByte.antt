@@ -28,7 +28,7 @@ module _ (strict : Bool) (W : ℕ) (wide : 0 < W) (s : List ℕ) (bytes : Bytes 
   whole =
       of-limited Five inputLimit (length s) (parse strict W s) (another (WidthFault W s) Limit 0 (λ e. omega arith))
       (λ h. of-parse Five strict W s
-      (of-unsigned Five (readUnsigned strict 64 s 0) (λ why p e f. inl (unsigned-outside strict 64 s 0 (omega arith) bytes e f)))
+      (λ strict. of-unsigned Five (readUnsigned strict 64 s 0) (λ why p e f. inl (unsigned-outside strict 64 s 0 (omega arith) bytes e f)))
       (λ at. of-unsigned Five (readUnsigned strict W s at) (λ why p e f. inr (inl (unsigned-outside strict W s at wide bytes e f))))
       (λ at. of-signed Five (readSigned strict 32 s at) (λ why p e f. inr (inr (inl (signed-outside strict 32 s at (omega arith) bytes e f)))))
       (λ at. of-signed Five (readSigned strict 33 s at) (λ why p e f. inr (inr (inr (inl (signed-outside strict 33 s at (omega arith) bytes e f))))))

@@ -17,7 +17,7 @@ use Rattle.records.specs.Reading.{one, none}
 use Rattle.records.proofs.Refusals.{OfUnsigned, OfSigned, OfStep, of-counted}
 use Rattle.relleb_table.specs.Table.{State, start, noChange, withAddend, withSymbol, withType, withOffset, stepAt, parse}
 
-module _ (P : Said) (strict : Bool) (W : ℕ) (s : List ℕ) (counts : OfUnsigned P (readUnsigned strict 64 s 0)) (offsets : (at : ℕ) → OfUnsigned P (readUnsigned strict W s at))
+module _ (P : Said) (strict : Bool) (W : ℕ) (s : List ℕ) (counts : (strict : Bool) → OfUnsigned P (readUnsigned strict 64 s 0)) (offsets : (at : ℕ) → OfUnsigned P (readUnsigned strict W s at))
     (types : (at : ℕ) → OfSigned P (readSigned strict 32 s at)) (symbols : (at : ℕ) → OfSigned P (readSigned strict 33 s at)) (addends : (at : ℕ) → OfSigned P (readSigned strict W s at))
     (zero : (at past : ℕ) (e : ℤ) → readSigned strict W s at ≡ Value e past → P Zero at) (over : (at : ℕ) → at < length s → P Trailing at) where
   addend : (at : ℕ) (base : ℤ) (o t y : ℕ) (u : Signed) → readSigned strict W s at ≡ u → OfSigned P u → OfStep P (withAddend strict W at base o t y u)
@@ -47,4 +47,4 @@ module _ (P : Said) (strict : Bool) (W : ℕ) (s : List ℕ) (counts : OfUnsigne
 
   pub of-parse : OfOutcome P (parse strict W s)
   unfolding parse
-  of-parse = of-counted P (stepAt strict W s) (length s) step over start (readUnsigned strict 64 s 0) counts
+  of-parse = of-counted P (stepAt strict W s) (length s) step over start _ (counts _)

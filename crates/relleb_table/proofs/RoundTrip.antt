@@ -15,7 +15,8 @@ use Rattle.answer.specs.Limits.{list-most, list-small}
 use Rattle.answer.specs.Outcome.{Outcome, accepted, inputLimit, listLimit}
 use Rattle.answer.specs.Outcome.Laws.{Accepts}
 use Rattle.answer.specs.Outcome.Laws as Outcome
-use Rattle.leb128.specs.Number.{IsWidth, readSigned, shortUnsigned, isNeg, shortSigned}
+use Rattle.leb128.specs.Number.{IsWidth, readUnsigned, readSigned, shortUnsigned, isNeg, shortSigned}
+use Rattle.leb128.specs.declared.Unsigned.the-variants.{Value as UValue}
 use Rattle.leb128.proofs.RoundTrip.{unsigned-bytes, signed-bytes}
 use Rattle.records.specs.Columns.{Each}
 use Rattle.records.specs.Columns.Laws.{At, each-of, column-of}
@@ -168,8 +169,8 @@ module _ (strict : Bool) (W : ℕ) (wide : IsWidth W) where
   parse-build l {b} few fine e =
       let n = shortUnsigned (length l) in
       let c = Outcome.behind n (puts (putOf W) behind 0 start l) (sym (build-is W l) ∙ e) in
-      let h = unsigned-here strict 64 b [] (c .rest) 0 (omega arith) refl (length l) few (c .whole) in
-      parse-is strict W b ∙ counted-records (stepAt strict W b) (length b) start h ∙
+      let h : (strict : Bool) → readUnsigned strict 64 b 0 ≡ UValue (length l) (length n) = λ strict. unsigned-here strict 64 b [] (c .rest) 0 (omega arith) refl (length l) few (c .whole) in
+      parse-is strict W b ∙ counted-records (stepAt strict W b) (length b) start (h _) ∙
       rw (c .whole) (back (stepAt strict W) (putOf W) behind (Ranged W) Fine record-back l 0 start n (pow-pos (W - 1)) fine (c .is))
 
 -- ---- a list is written exactly where it is within its limit and each of its records is legal

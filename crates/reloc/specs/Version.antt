@@ -6,6 +6,6 @@ use Prim.Native.Nat.{ℕ, _+_, _*_}
 abbrev pub numbered : ℕ → ℕ → ℕ → ℕ
 numbered major minor patch = major * 1000000 + minor * 1000 + patch
 
--- this version, 0.7.0; the header, the wrapper and CHANGELOG.md have the same
+-- this version, 0.7.1; the header, the wrapper and CHANGELOG.md have the same
 abbrev pub version : ℕ
-version = numbered 0 7 0
+version = numbered 0 7 1

@@ -9,8 +9,8 @@ ghost use Rattle.relleb_table.specs.Contract.{Reads as RellebReads, Writes as R
 use answer::Answer;
 use word::ByteOrder;
 
-// The version as one number: 0.7.0.
-const VERSION: u32 = 7000;
+// The version as one number: 0.7.1.
+const VERSION: u32 = 7001;
 
 #[no_mangle]
 pub extern "C" fn reloc_version() -> u32

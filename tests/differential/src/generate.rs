@@ -9,9 +9,11 @@ use reference::corpus::case::Case;
 use reference::corpus::rng::Rng;
 use reference::corpus::twin::twin;
 
-/// A case, and the damage if its table is a damaged one of the library.
+/// A case, whether its table is one of the library, and the damage if that is
+/// damaged.
 pub struct Made {
     pub case: Case,
+    pub written: bool,
     pub damage: Option<Damage>,
 }
 
@@ -33,7 +35,7 @@ pub fn case(rng: &mut Rng) -> Made {
     if share < 3
         && let Some(case) = whole(&mut build, call, class, size, damage)
     {
-        return Made { case, damage };
+        return Made { case, written: true, damage };
     }
     let mut case = build.case(call, class, size);
     if case.call().takes(Setting::Class) && rng.once_in(30) {
@@ -42,7 +44,7 @@ pub fn case(rng: &mut Rng) -> Made {
     if rng.once_in(16) {
         uneven(rng, &mut case);
     }
-    Made { case: in_some_setting(rng, case), damage: None }
+    Made { case: in_some_setting(rng, case), written: false, damage: None }
 }
 
 /// A case, or its twin, which is big-endian or strict; each half of the time.

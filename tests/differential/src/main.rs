@@ -3,13 +3,14 @@
 //! the seed, which is printed first. A table of APA1 or RELLEB that is accepted
 //! strictly is written again, which must give the same bytes. At its end it prints
 //! how many of each call, byte order and setting ended in each number, how many had
-//! a damaged table of the library's writers, how many tables were written again, and
-//! how many cases there were.
+//! a damaged table of the library's writers, how many tables were written again that
+//! were made at random and how many that the writers had made, and how many cases
+//! there were.
 
 use differential::damage::DAMAGES;
 use differential::generate::{self, Made};
 use differential::{Run, by_library, by_reference};
-use reference::corpus::again::again;
+use reference::corpus::again::{AGAIN, again, kind};
 use reference::corpus::calls::{CALLS, NUMBERS};
 use reference::corpus::case::Case;
 use reference::corpus::rng::Rng;
@@ -27,9 +28,10 @@ fn main() -> ExitCode {
     let mut rng = Rng::new(seed);
     let mut seen = vec![[[0u64; NUMBERS]; 2]; CALLS.len()];
     let mut damaged = [0u64; DAMAGES.len()];
-    let (mut cases, mut rewritten) = (0u64, 0u64);
+    let mut rewritten = [[0u64; 2]; AGAIN.len()];
+    let mut cases = 0u64;
     while Instant::now() < end {
-        let Made { case, damage } = generate::case(&mut rng);
+        let Made { case, written, damage } = generate::case(&mut rng);
         let Some(run) = compared(&case) else {
             println!("in case {cases}");
             return ExitCode::FAILURE;
@@ -39,19 +41,22 @@ fn main() -> ExitCode {
         if let Some(damage) = damage {
             damaged[damage as usize] += 1;
         }
-        if let Some(write) = again(&case) {
+        if let (Some(kind), Some(write)) = (kind(&case), again(&case)) {
             if compared(&write).is_none_or(|run| run.after.bytes != case.input) {
                 println!("another table than in case {cases}: {case:02x?}");
                 return ExitCode::FAILURE;
             }
-            rewritten += 1;
+            rewritten[kind][written as usize] += 1;
         }
         cases += 1;
     }
     print_seen(&seen);
     let damaged = DAMAGES.iter().zip(damaged).map(|((_, name), count)| format!("{name} {count}"));
     println!("writers' tables damaged: {}", damaged.collect::<Vec<_>>().join(", "));
-    println!("strict tables written again: {rewritten}");
+    let rewritten = AGAIN.iter().zip(rewritten).map(|((_, _, name), [made, written])| {
+        format!("{name} {made} made at random, {written} of the writers'")
+    });
+    println!("strict tables written again: {}", rewritten.collect::<Vec<_>>().join("; "));
     println!("{cases} cases, no difference");
     ExitCode::SUCCESS
 }

@@ -1,13 +1,16 @@
 //! The reference's corpus, and whether the random cases meet every refusal and
 //! edge.
 
-use differential::{by_library, by_reference, generate};
+use differential::generate::{self, Made};
+use differential::{by_library, by_reference};
+use reference::corpus::again::{AGAIN, again, kind};
 use reference::corpus::calls::{
     APA1_READ, APR1_READ, CALLS, Call, RELLEB_READ, RELR_APPLY, RELR_READ, Setting,
 };
 use reference::corpus::case::Case;
 use reference::corpus::rng::Rng;
-use reference::corpus::twin::ending;
+use reference::corpus::tables::relr_bytes;
+use reference::corpus::twin::{ending, twin};
 use reference::corpus::{all, long};
 use reloc::{Kind, Refusal};
 use std::collections::HashSet;
@@ -72,6 +75,49 @@ fn every_answer_gives_way() {
             let met = seen.contains(&(call, number, *lax));
             assert!(met, "{} never {number} for {lax}", Call::of(call).name);
         }
+    }
+}
+
+/// Tables that are accepted strictly are made at random, not only by the writers: of
+/// each kind that has one table for a list, and with several records.
+#[test]
+fn strict_tables_are_made() {
+    let mut rng = Rng::new(1);
+    let mut made = [0; AGAIN.len()];
+    for _ in 0..20_000 {
+        let Made { case, written, .. } = generate::case(&mut rng);
+        if let (Some(kind), Some(write)) = (kind(&case), again(&case))
+            && !written
+            && write.offsets.len() > 2
+        {
+            made[kind] += 1;
+        }
+    }
+    assert!(made.iter().all(|count| *count > 20), "{made:?}");
+}
+
+/// The kinds that have several tables for a list: a run of APR1 can be split, and an
+/// empty bitmap added to RELR.
+#[test]
+fn two_tables_of_one_list() {
+    let runs = [&b"APR1\x01\0\x02\x04"[..], b"APR1\x02\0\x01\x04\x01\x04"];
+    let apr1 = runs.map(|table| Case { strict: true, ..Case::read_into(APR1_READ, 0, table, 3) });
+    let mut pairs = vec![apr1];
+    for class in [4, 8] {
+        let words = [&[0x1000][..], &[0x1000, 1]].map(|words| relr_bytes(class, words));
+        let little = words.map(|table| Case::read_into(RELR_READ, class, &table, 1));
+        let big = little.clone().map(|case| twin(&case).expect("a big-endian twin"));
+        pairs.extend([little, big]);
+    }
+    for pair in pairs {
+        assert!(pair[0].input != pair[1].input);
+        let [first, second] = pair.map(|case| {
+            let run = by_library(&case);
+            assert!(run == by_reference(&case) && run.result.is_ok(), "{case:02x?}");
+            run
+        });
+        assert_eq!(first.result, second.result);
+        assert_eq!(first.after.offsets, second.after.offsets);
     }
 }
 

@@ -2,6 +2,7 @@
 //! limits.sh runs them one at a time, in 8 GiB of memory.
 
 use differential::{Run, by_library, by_reference};
+use reference::corpus::again::{AGAIN, again};
 use reference::corpus::calls::{
     APA1_READ, APA1_WRITE, APR1_READ, APR1_WRITE, RELLEB_READ, RELLEB_WRITE, RELR_READ, RELR_WRITE,
     Setting,
@@ -314,5 +315,28 @@ fn relleb_lists() {
     for (class, record) in [(4, 20), (8, 30)] {
         let list = |records| widest::list(RELLEB_WRITE, class, records);
         written(list(LIST_LIMIT), RELLEB_READ, list(LIST_LIMIT + 1), 4 + record * LIST_LIMIT);
+    }
+}
+
+/// A strict table of as many records as a list may have is written again to the byte;
+/// one of a record more is read, and its list is refused.
+#[test]
+fn strict_tables() {
+    for (call, class, name) in AGAIN {
+        let (head, count, record): (&[u8], _, &[u8]) = match call {
+            APA1_READ => (b"APA1", Signed(64), &[0x08, 0x7F]),
+            _ => (b"", Unsigned(64), &[0x04, 0x7F, 0x7C, 0x01]),
+        };
+        let read = |records: usize| {
+            let table = [head, &number(count, records as i128), &record.repeat(records)].concat();
+            Case { strict: true, ..Case::read_into(call, class, &table, records) }
+        };
+        let (within, beyond) = (read(LIST_LIMIT), read(LIST_LIMIT + 1));
+        check_one(&within, Ok(LIST_LIMIT));
+        let write = again(&within).expect("a list to write");
+        check_one(&write, Ok(within.input.len()));
+        assert!(write.run().1.bytes == within.input, "{name}");
+        check_one(&beyond, Ok(LIST_LIMIT + 1));
+        check_one(&again(&beyond).expect("a list to write"), LIMIT);
     }
 }

@@ -25,7 +25,7 @@ use Rattle.apa1_table.specs.Inner.{Fillable, Measures}
 
 -- ---- reading
 module _ (strict : Bool) (s : List ℕ) (m k : ℕ) where
-  read-uneven : (m ≡ k → ⊥) → decoding strict s m k ≡ refused Columns 0
+  pub read-uneven : (m ≡ k → ⊥) → decoding strict s m k ≡ refused Columns 0
   unfolding decoding
   read-uneven h = rw (ne-eqb m k h)
 

@@ -28,19 +28,19 @@ abbrev pub Spelled : List ℕ → Said
 Spelled s why p = (why ≡ Padded) × LongerSigned 64 s p
 
 module _ (strict : Bool) (s : List ℕ) where
-  number : (at : ℕ) → Unless Refused (Spelled s) (readSigned strict 64 s at) (readSigned false 64 s at)
-  number at = unless-signed (Spelled s) strict 64 s at (λ h. (refl, h))
+  number : (strict : Bool) (at : ℕ) → Unless Refused (Spelled s) (readSigned strict 64 s at) (readSigned false 64 s at)
+  number strict at = unless-signed (Spelled s) strict 64 s at (λ h. (refl, h))
 
   second : (prev : Row) (u : Signed) → Unless none (Spelled s) (firstOf strict s prev u) (firstOf false s prev u)
   unfolding firstOf secondOf
   second prev (Value d next) =
-      unless-then Refused none (Spelled s) (secondOf prev d) (secondOf prev d) (λ why p. refl) (λ u. same refl) (readSigned strict 64 s next) (readSigned false 64 s next) (number next)
+      unless-then Refused none (Spelled s) (secondOf prev d) (secondOf prev d) (λ why p. refl) (λ u. same refl) (readSigned strict 64 s next) (readSigned false 64 s next) (number strict next)
   second prev (Refused why p) = same refl
 
   step : (at : ℕ) (prev : Row) → Unless none (Spelled s) (stepAt strict s at prev) (stepAt false s at prev)
   unfolding stepAt firstOf
   step at prev =
-      unless-then Refused none (Spelled s) (firstOf strict s prev) (firstOf false s prev) (λ why p. refl) (second prev) (readSigned strict 64 s at) (readSigned false 64 s at) (number at)
+      unless-then Refused none (Spelled s) (firstOf strict s prev) (firstOf false s prev) (λ why p. refl) (second prev) (readSigned strict 64 s at) (readSigned false 64 s at) (number strict at)
 
   count : (u v w : Signed) → Unless Refused (Spelled s) v w → Unless URefused (Spelled s) (countOf u v) (countOf u w)
   unfolding countOf plain
@@ -52,8 +52,8 @@ module _ (strict : Bool) (s : List ℕ) where
   unfolding headAt
   head =
       let at = length identifier in
-      unless-cond URefused (Spelled s) (startsWith identifier s) (countOf (readSigned false 64 s at) (readSigned strict 64 s at)) (countOf (readSigned false 64 s at) (readSigned false 64 s at))
-      (URefused Identifier 0) (count (readSigned false 64 s at) (readSigned strict 64 s at) (readSigned false 64 s at) (number at))
+      unless-cond URefused (Spelled s) (startsWith identifier s) (countOf (readSigned false 64 s at) _) (countOf (readSigned false 64 s at) _)
+      (URefused Identifier 0) (count (readSigned false 64 s at) _ _ (number _ at))
 
   pub decode-unless : Unless refused (Spelled s) (decode strict s) (decode false s)
   unfolding decode parse

@@ -23,8 +23,8 @@ use Rattle.leb128.proofs.Setting.{unless-unsigned, unless-signed}
 use Rattle.records.specs.Reading.{Step, one, none}
 use Rattle.records.proofs.Unless.{unless-counted}
 use Rattle.wrap.specs.Wrap.{wrapped}
-use Rattle.wrap.specs.Wrap.Laws.{same-true}
 use Rattle.relleb_table.specs.Table.{Row, row, State, state, start, noChange, withAddend, withSymbol, withType, withOffset, stepAt, parse, decode}
+use Rattle.relleb_table.specs.Table.Laws.{no-change}
 
 -- a number longer than its shortest form: the count, a difference of offsets, one of types, a symbol field, or a difference of addends
 abbrev pub Longer : ℕ → List ℕ → ℕ → Type 0
@@ -45,7 +45,7 @@ module _ (strict : Bool) (W : ℕ) (s : List ℕ) where
     where
       go : (t : Bool) → readSigned t W s at ≡ Value e past → noChange t e ≡ true → Unchanged W s at
       go false f h = let z : _≡_ {A = ℕ} 0 1 = cc in absurd (omega arith)
-      go true f h = (past, f ∙ ap (λ (z : ℤ). Value z past) (same-true e (pos 0) h))
+      go true f h = (past, f ∙ ap (λ (z : ℤ). Value z past) (no-change e h))
 
   addend : (at : ℕ) (base : ℤ) (o t y : ℕ) (u : Signed) → readSigned strict W s at ≡ u → Unless none (Spelled W s) (withAddend strict W at base o t y u) (withAddend false W at base o t y u)
   unfolding withAddend
@@ -89,8 +89,8 @@ module _ (strict : Bool) (W : ℕ) (s : List ℕ) where
   unfolding decode parse
   decode-unless =
       unless-cond refused (Spelled W s) (leb (length s) inputLimit) (parse strict W s) (parse false W s) (refused Limit 0)
-      (unless-counted (Spelled W s) (stepAt strict W s) (stepAt false W s) (length s) step start (readUnsigned strict 64 s 0) (readUnsigned false 64 s 0)
-      (unless-unsigned (Spelled W s) strict 64 s 0 (λ h. inl (refl, inl h))))
+      (unless-counted (Spelled W s) (stepAt strict W s) (stepAt false W s) (length s) step start _ _
+      (unless-unsigned (Spelled W s) _ 64 s 0 (λ h. inl (refl, inl h))))
 
   -- what is accepted is accepted laxly, as the same list
   pub decode-lax : {l : List Row} → decode strict W s ≡ accepted l → decode false W s ≡ decode strict W s
