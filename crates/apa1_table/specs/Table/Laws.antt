@@ -97,7 +97,7 @@ module _ (strict : Bool) (s : List ℕ) where
   pub decode-negative : {n next : ℕ} → length s ≤ inputLimit → startsWith identifier s ≡ true → readSigned false 64 s (length identifier) ≡ Value (negsuc n) next
       → decode strict s ≡ refused Width (length identifier)
   decode-negative {n} {next} h i e =
-      decode-in h ∙ parse-is ∙ counted-not (stepAt strict s) (length s) start (head-is strict s i e ∙ count-negative (negsuc n) next (readSigned strict 64 s (length identifier)) refl)
+      decode-in h ∙ parse-is ∙ counted-not (stepAt strict s) (length s) start (head-is strict s i e ∙ count-negative (negsuc n) next _ refl)
 
 -- ---- the records of columns
 module _ (os : List ℕ) (us : List ℤ) (same : length os ≡ length us) where
