@@ -20,9 +20,9 @@
  * its shortest form is refused, and a RELLEB addend difference of zero too. Both
  * are accepted, so no refusal speaks of the setting itself. A table that is
  * accepted strictly is read as the same list lax; every table of these kinds that
- * the library writes is accepted strictly. Of APA1, and of RELLEB in each class, no
- * other is: a list of at most RELOC_LIST_LIMIT records has one table that is
- * accepted strictly, the one that is written of it, so equal lists have equal bytes.
+ * the library writes is accepted strictly. A table of APA1, or of RELLEB in a class,
+ * that is accepted strictly and has at most RELOC_LIST_LIMIT records is the one that
+ * the library writes of its list: two such tables of equal lists have equal bytes.
  * Not so of APR1, where a run can be split, nor of RELR, to which an empty bitmap
  * can be added.
  *

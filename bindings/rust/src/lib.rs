@@ -32,10 +32,11 @@
 //! number may be padded; true is strict, where a number longer than its shortest
 //! form is refused ([`Kind::Padded`]), and a RELLEB addend difference of zero too
 //! ([`Kind::Zero`]). A table that is accepted strictly is read as the same list lax;
-//! every table of these kinds that the library writes is accepted strictly. Of APA1,
-//! and of RELLEB in each class, no other is: a list of at most [`LIST_LIMIT`] records
-//! has one table that is accepted strictly, the one that is written of it. Not so of
-//! APR1, where a run can be split, nor of RELR, to which an empty bitmap can be added.
+//! every table of these kinds that the library writes is accepted strictly. A table of
+//! APA1, or of RELLEB in a class, that is accepted strictly and has at most
+//! [`LIST_LIMIT`] records is the one that the library writes of its list: two such
+//! tables of equal lists have equal bytes. Not so of APR1, where a run can be split,
+//! nor of RELR, to which an empty bitmap can be added.
 //!
 //! ```
 //! use reloc::{Kind, apr1_read};

@@ -21,14 +21,14 @@ use Rattle.answer.specs.declared.Answer.{Answer}
 use Rattle.answer.specs.declared.Refusal.{Refusal}
 use Rattle.answer.specs.declared.Refusal.the-variants as why
 use Rattle.answer.specs.Outcome.{Outcome, accepted, refused, numberOf, listLimit, success, refusal, noRoom, filled, itself, Gives}
-use Rattle.answer.specs.Outcome.Laws.{Accepts, accepted-refused, answer-fits, answer-long, answer-refused, filled-fits, gives-zero}
+use Rattle.answer.specs.Outcome.Laws.{Accepts, answer-fits, answer-long, answer-refused, filled-fits, gives-zero}
 use Rattle.records.specs.Columns.{Each}
 use Rattle.records.specs.Reading.{Fitting}
 use Rattle.word.specs.declared.Size.{Size}
 use Rattle.word.specs.declared.ByteOrder.{ByteOrder}
-use Rattle.word.specs.declared.Named.{Named}
-use Rattle.word.specs.declared.Named.the-variants.{Is, Unknown}
+use Rattle.word.specs.declared.Named.the-variants.{Is}
 use Rattle.word.specs.Class.{widthOf, classIn, classOf}
+use Rattle.word.specs.Class.Laws.{class-accepted}
 use Rattle.relr_table.specs.Table as relr
 use Rattle.relr_table.specs.Contract as relr-contract
 use Rattle.relr_table.specs.Contract.Laws as relr-laws
@@ -105,11 +105,8 @@ module _ (class : ℕ) (order : ByteOrder) (l : List ℕ) where
       record { list = relr.tableBytes (classIn z order) l; is = relr-laws.encoding-is class order refl e l ∙ relr-trip.encode-accepts (classIn z order) l h }
 
   pub relr-legal-is : {b : List ℕ} → relr-contract.encoding class order l ≡ accepted b → (z : Size) × (classOf class ≡ Is z) × relr.Writable (classIn z order) l
-  relr-legal-is {b} e = go (classOf class) refl
-    where
-      go : (n : Named) → classOf class ≡ n → (z : Size) × (classOf class ≡ Is z) × relr.Writable (classIn z order) l
-      go (Is z) n = (z, n, relr-trip.encode-legal (classIn z order) l (sym (relr-laws.encoding-is class order refl n l) ∙ e))
-      go Unknown n = absurd (accepted-refused e (relr-laws.encoding-unknown class order refl n l))
+  unfolding relr-contract.encoding
+  relr-legal-is e = let (z, n, f) = class-accepted (classOf class) _ e in (z, n, relr-trip.encode-legal (classIn z order) l f)
 
   relr-decodes : {b : List ℕ} → relr-contract.encoding class order l ≡ accepted b → relr-contract.decoding class order b ≡ accepted l
   relr-decodes {b} e =
@@ -161,11 +158,7 @@ module _ (os : List ℕ) (us : List ℤ) where
   apa1-many same h = apa1-laws.write-plain os us same ∙ encode-over (apa1.rows os us) (omega (arith, rows-length os us same))
 
   pub apa1-legal-is : {b : List ℕ} → apa1-contract.encoding os us ≡ accepted b → (length os ≡ length us) × (length os ≤ listLimit)
-  apa1-legal-is e =
-      elim (ℕ-discrete (length os) (length us)) [
-        | no n ↦ absurd (accepted-refused e (apa1-laws.write-uneven os us n))
-        | yes n ↦ (n, elim (decLe (length os) listLimit) [ yes h ↦ h | no h ↦ absurd (accepted-refused e (apa1-many n h)) ])
-      ]
+  apa1-legal-is e = let (n, f) = apa1-laws.write-accepted os us e in (n, omega (arith, apa1-trip.encode-legal (apa1.rows os us) f, rows-length os us n))
 
   module _ (old : List ℕ) {new : List ℕ} {w : Answer} (g : apa1-contract.Writes os us old w new) where
     pub apa1-only : Only (w .number)
@@ -199,29 +192,12 @@ module _ (class : ℕ) (os ts ys : List ℕ) (us : List ℤ) where
       let a = relleb-trip.encode-accepts (widthOf z) (relleb.rows os ts ys us) (omega (arith, relleb-laws.many os ts ys us s)) f in
       record { list = a .list; is = relleb-laws.write-plain class os ts ys us refl n (relleb-laws.same-even os ts ys us s) ∙ a .is }
 
-  -- what is accepted is four columns of one length, in a class
-  module _ {b : List ℕ} (e : relleb-contract.encoding class os ts ys us ≡ accepted b) where
-    relleb-named : (z : Size) × (classOf class ≡ Is z)
-    relleb-named = go (classOf class) refl
-      where
-        go : (n : Named) → classOf class ≡ n → (z : Size) × (classOf class ≡ Is z)
-        go (Is z) n = (z, n)
-        go Unknown n = absurd (accepted-refused e (relleb-laws.write-unknown class os ts ys us refl n))
-
-    relleb-same : (z : Size) → classOf class ≡ Is z → relleb-contract.Same os ts ys us
-    relleb-same z n = go (relleb-contract.even (length os) (length ts) (length ys) (length us)) refl
-      where
-        go : (t : Bool) → relleb-contract.even (length os) (length ts) (length ys) (length us) ≡ t → relleb-contract.Same os ts ys us
-        go true t = relleb-laws.even-same os ts ys us t
-        go false t = absurd (accepted-refused e (relleb-laws.write-uneven class os ts ys us refl n t))
-
-    pub relleb-legal-is : (z : Size) × (classOf class ≡ Is z) × relleb-contract.Same os ts ys us × (length os ≤ listLimit) × Each (relleb.InWidth (widthOf z)) (relleb.rows os ts ys us)
-    relleb-legal-is =
-        let (z, n) = relleb-named in
-        let s = relleb-same z n in
-        let f = sym (relleb-laws.write-plain class os ts ys us refl n (relleb-laws.same-even os ts ys us s)) ∙ e in
-        let (h, l) = relleb-trip.encode-legal (widthOf z) (relleb.rows os ts ys us) f in
-        (z, n, s, omega (arith, relleb-laws.many os ts ys us s), l)
+  pub relleb-legal-is : {b : List ℕ} → relleb-contract.encoding class os ts ys us ≡ accepted b
+      → (z : Size) × (classOf class ≡ Is z) × relleb-contract.Same os ts ys us × (length os ≤ listLimit) × Each (relleb.InWidth (widthOf z)) (relleb.rows os ts ys us)
+  relleb-legal-is e =
+      let (z, n, s, f) = relleb-laws.write-accepted class os ts ys us e in
+      let (h, l) = relleb-trip.encode-legal (widthOf z) (relleb.rows os ts ys us) f in
+      (z, n, s, omega (arith, relleb-laws.many os ts ys us s), l)
 
   module _ (old : List ℕ) {new : List ℕ} {w : Answer} (g : relleb-contract.Writes class os ts ys us old w new) where
     module _ (strict : Bool) (os₀ ts₀ ys₀ : List ℕ) (us₀ : List ℤ) {r : Answer} {os′ ts′ ys′ : List ℕ} {us′ : List ℤ} where

@@ -6,18 +6,17 @@
 --   apr1-split, apr1-alike   an APR1 table with a run that is split
 --   relr-empty, relr-alike   a RELR table with an empty bitmap added, in each class and order
 -- Assumes nothing.
-use mathlib.Core.Bool.{Bool, true, false}
+use mathlib.Core.Bool.{true}
 use mathlib.Core.List.{List, [], _∷_, map}
 use mathlib.Core.Path.{_≡_, refl, sym, ap, ap₂, _∙_, subst}
 use Prim.Native.Nat.{ℕ, _≤_}
-use native.Mathlib.Decide.{ℕ-discrete}
 use native.Mathlib.Omega.{arith}
 use lib.IntN.{ℤ}
 use lib.ListN.{length, take, length-map}
 use Rattle.answer.specs.declared.Answer.{Answer}
 use Rattle.answer.specs.Bytes.{Bytes}
 use Rattle.answer.specs.Outcome.{Outcome, accepted, inputLimit, listLimit, success, answerIn, filled, before, after, Gives}
-use Rattle.answer.specs.Outcome.Laws.{Succeeded, accepted-refused, answer-zero, answer-fits, filled-self}
+use Rattle.answer.specs.Outcome.Laws.{Succeeded, answer-zero, answer-fits, filled-self}
 use Rattle.leb128.specs.Number.{readUnsigned, laxUnsigned, raw, short, shortBy}
 use Rattle.records.specs.Identifier.{startsWith}
 use Rattle.records.specs.Reading.{stepThen, records}
@@ -25,8 +24,7 @@ use Rattle.word.specs.declared.Size.{Size}
 use Rattle.word.specs.declared.Size.the-variants.{Four, Eight}
 use Rattle.word.specs.declared.ByteOrder.{ByteOrder}
 use Rattle.word.specs.declared.ByteOrder.the-variants.{Little, Big}
-use Rattle.word.specs.declared.Named.{Named}
-use Rattle.word.specs.declared.Named.the-variants.{Is, Unknown}
+use Rattle.word.specs.declared.Named.the-variants.{Is}
 use Rattle.word.specs.Class.{widthOf, sizeOf, classIn, classOf}
 use Rattle.word.specs.Class.Laws.{class-of}
 use Rattle.word.specs.Word.{valueOf, bytesIn, arranged, firstWords, wordsOf, bytesOfWords}
@@ -83,15 +81,12 @@ apa1-list s os us {r} {os′} {us′} reads zero =
     let a = accepts (length os) (apa1-contract.decoding true s (length os) (length us)) (reads .answer) zero in
     let l = a .list in
     let n = counts a in
-    let even : length os ≡ length us = elim (ℕ-discrete (length os) (length us)) [
-      | yes e ↦ e
-      | no e ↦ absurd (accepted-refused (a .is) (apa1-laws.read-uneven true s (length os) (length us) e))
-    ] in
+    let (even, d) = apa1-laws.read-accepted true s (length os) (length us) (a .is) in
     let o : take (r .count) os′ ≡ map apa1-contract.offsetOf l = holds apa1-contract.offsetOf a os (a .fits) (reads .columns .offsets) in
     let u : take (r .count) us′ ≡ map apa1-contract.addendOf l = holds apa1-contract.addendOf a us (omega (arith, a .fits)) (reads .columns .addends) in
     record {
       list = l;
-      decodes = sym (apa1-laws.read-plain true s (length os) (length us) even) ∙ a .is;
+      decodes = d;
       counted = n;
       even = ap length o ∙ length-map l apa1-contract.offsetOf ∙ sym (ap length u ∙ length-map l apa1-contract.addendOf);
       held = ap₂ apa1.rows o u ∙ apa1-converse.rows-back l;
@@ -125,30 +120,13 @@ record RellebList (class : ℕ) (s : List ℕ) (r : Answer) (os ts ys : List ℕ
   same : relleb-contract.Same (take (r .count) os) (take (r .count) ts) (take (r .count) ys) (take (r .count) us)
   held : relleb.rows (take (r .count) os) (take (r .count) ts) (take (r .count) ys) (take (r .count) us) ≡ list
 
-module _ (class : ℕ) (s os ts ys : List ℕ) (us : List ℤ) {l : List relleb.Row} (e : relleb-contract.decoding class true s (length os) (length ts) (length ys) (length us) ≡ accepted l) where
-  -- what is accepted is read into four columns of one length, in a class
-  named : (z : Size) × (classOf class ≡ Is z)
-  named = go (classOf class) refl
-    where
-      go : (n : Named) → classOf class ≡ n → (z : Size) × (classOf class ≡ Is z)
-      go (Is z) n = (z, n)
-      go Unknown n = absurd (accepted-refused e (relleb-laws.read-unknown class true s (length os) (length ts) (length ys) (length us) refl n))
-
-  evenly : (z : Size) → classOf class ≡ Is z → relleb-contract.even (length os) (length ts) (length ys) (length us) ≡ true
-  evenly z n = go (relleb-contract.even (length os) (length ts) (length ys) (length us)) refl
-    where
-      go : (t : Bool) → relleb-contract.even (length os) (length ts) (length ys) (length us) ≡ t → t ≡ true
-      go true t = refl
-      go false t = absurd (accepted-refused e (relleb-laws.read-uneven class true s (length os) (length ts) (length ys) (length us) refl n t))
-
 module _ (class : ℕ) (s os ts ys : List ℕ) (us : List ℤ) {r : Answer} {os′ ts′ ys′ : List ℕ} {us′ : List ℤ} where
   relleb-list : relleb-contract.Reads class true s os ts ys us r os′ ts′ ys′ us′ → r .number ≡ 0 → RellebList class s r os′ ts′ ys′ us′
   relleb-list reads zero =
       let a = accepts (length os) (relleb-contract.decoding class true s (length os) (length ts) (length ys) (length us)) (reads .answer) zero in
       let l = a .list in
       let n = counts a in
-      let (z, c) = named class s os ts ys us (a .is) in
-      let even = evenly class s os ts ys us (a .is) z c in
+      let (z, c, even, d) = relleb-laws.read-accepted class true s (length os) (length ts) (length ys) (length us) (a .is) in
       let same = relleb-laws.even-same os ts ys us even in
       let o : take (r .count) os′ ≡ map relleb-contract.offsetOf l = holds relleb-contract.offsetOf a os (a .fits) (reads .columns .offsets) in
       let t : take (r .count) ts′ ≡ map relleb-contract.typeOf l = holds relleb-contract.typeOf a ts (omega (arith, a .fits, same .types)) (reads .columns .types) in
@@ -159,7 +137,7 @@ module _ (class : ℕ) (s os ts ys : List ℕ) (us : List ℤ) {r : Answer} {os�
         z = z;
         named = c;
         list = l;
-        decodes = sym (relleb-laws.read-plain class true s (length os) (length ts) (length ys) (length us) refl c even) ∙ a .is;
+        decodes = d;
         counted = n;
         same = record {
           types = long ∙ sym (ap length t ∙ length-map l relleb-contract.typeOf);

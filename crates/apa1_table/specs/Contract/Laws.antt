@@ -5,17 +5,18 @@ use mathlib.Core.Bool.{Bool, false}
 use mathlib.Core.Path.{_≡_, ap, sym, _∙_}
 use mathlib.Core.List.{List}
 use native.Mathlib.Omega.{arith}
+use lib.Dec.{eqb}
 use lib.IntN.{ℤ}
 use lib.ListN.{length}
 use borrow.Author.Needs.{needs}
-use borrow.Author.Tests.{eq-eqb, ne-eqb}
+use borrow.Author.Tests.{eq-eqb, ne-eqb, eqb-true}
 use Rattle.answer.specs.declared.Answer.{Answer}
 use Rattle.answer.specs.declared.Refusal.{Refusal}
 use Rattle.answer.specs.declared.Refusal.the-variants.{Columns}
 use Rattle.answer.specs.declared.Found.{Found}
 use Rattle.answer.specs.declared.Found.the-variants as found
-use Rattle.answer.specs.Outcome.{Outcome, refused, success, refusal, noRoom, Gives, foundOf, itself, filled}
-use Rattle.answer.specs.Outcome.Laws.{accepted-refused, answer-fits, answer-long, answer-refused, filled-long, filled-refused, Counted, found-count, not-found, gives-refused, gives-not, gives-short, gives-full, gives-zero}
+use Rattle.answer.specs.Outcome.{Outcome, accepted, refused, success, refusal, noRoom, Gives, foundOf, itself, filled}
+use Rattle.answer.specs.Outcome.Laws.{accepted-refused, cond-accepted, answer-fits, answer-long, answer-refused, filled-long, filled-refused, Counted, found-count, not-found, gives-refused, gives-not, gives-short, gives-full, gives-zero}
 use Rattle.records.specs.Writing.{Fits, Puts}
 use Rattle.records.proofs.Writing.{puts-filled}
 use Rattle.apa1_table.specs.Table.{Row, decode, rows, encode}
@@ -25,13 +26,17 @@ use Rattle.apa1_table.specs.Inner.{Fillable, Measures}
 
 -- ---- reading
 module _ (strict : Bool) (s : List ℕ) (m k : ℕ) where
-  pub read-uneven : (m ≡ k → ⊥) → decoding strict s m k ≡ refused Columns 0
+  read-uneven : (m ≡ k → ⊥) → decoding strict s m k ≡ refused Columns 0
   unfolding decoding
   read-uneven h = rw (ne-eqb m k h)
 
   pub read-plain : m ≡ k → decoding strict s m k ≡ decode strict s
   unfolding decoding
   read-plain h = rw (eq-eqb m k h)
+
+  pub read-accepted : {l : List Row} → decoding strict s m k ≡ accepted l → (m ≡ k) × (decode strict s ≡ accepted l)
+  unfolding decoding
+  read-accepted e = let (t, f) = cond-accepted (eqb m k) (decode strict s) Columns 0 e in (eqb-true m k t, f)
 
 -- the columns stay as they are
 module _ {o : Outcome (List Row)} (os : List ℕ) (us : List ℤ) where
@@ -81,6 +86,10 @@ module _ (os : List ℕ) (us : List ℤ) where
   pub write-plain : length os ≡ length us → encoding os us ≡ encode (rows os us)
   unfolding encoding
   write-plain h = rw (eq-eqb (length os) (length us) h)
+
+  pub write-accepted : {b : List ℕ} → encoding os us ≡ accepted b → (length os ≡ length us) × (encode (rows os us) ≡ accepted b)
+  unfolding encoding
+  write-accepted e = let (t, f) = cond-accepted (eqb (length os) (length us)) (encode (rows os us)) Columns 0 e in (eqb-true (length os) (length us) t, f)
 
   module _ (old : List ℕ) where
     pub writes-uneven : {r : Answer} → r ≡ refusal Columns 0 → (length os ≡ length us → ⊥) → Writes os us old r old

@@ -24,7 +24,7 @@ module _ (class : ℕ) (order : ByteOrder) {n : Named} (e : n ≡ classOf class)
     unfolding decoding
     decoding-unknown s = rw (← e, u)
 
-    pub encoding-unknown : (l : List ℕ) → encoding class order l ≡ refused why.Class 0
+    encoding-unknown : (l : List ℕ) → encoding class order l ≡ refused why.Class 0
     unfolding encoding
     encoding-unknown l = rw (← e, u)
 
