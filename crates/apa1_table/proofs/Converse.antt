@@ -1,4 +1,4 @@
--- A table that is accepted strictly is the one that is written for its list; so two such tables of one list are one.
+-- The converse of the round trip: a table that is accepted strictly is the one that is written for its list.
 -- Assumes nothing.
 use Prim.Native.Nat.{ℕ, _≤_, _<_}
 use mathlib.Core.Path.{_≡_, refl, ap, ap₂, sym, _∙_}
@@ -22,7 +22,7 @@ use Rattle.records.specs.Columns.Laws.{zipped-map}
 use Rattle.records.specs.Identifier.{startsWith}
 use Rattle.records.specs.Identifier.Laws.{starts-whole}
 use Rattle.records.specs.Reading.{one}
-use Rattle.records.proofs.Converse.{Verbatim, head, forth}
+use Rattle.records.proofs.Converse.{Verbatim, announced, forth}
 use Rattle.records.proofs.Writing.{after-accepted}
 use Rattle.wrap.specs.Wrap.{residue, wrapped}
 use Rattle.wrap.specs.Wrap.Laws.{residue-lt, residue-small, residue-wrapped, forth-wrapped}
@@ -32,11 +32,11 @@ use Rattle.apa1_table.specs.Contract.{offsetOf, addendOf}
 
 module _ (s : List ℕ) (bytes : Bytes s) where
   -- ---- a record: its differences are the numbers that stand there
-  abbrev Stands : ℕ → Row → Row → ℕ → Row → Type 0
-  Stands at prev x past now = Verbatim putOf behind (λ (x : Row). Unit {0}) s at prev x past now
+  abbrev AsWritten : ℕ → Row → Row → ℕ → Row → Type 0
+  AsWritten at prev x past now = Verbatim putOf behind (λ (x : Row). Unit {0}) s at prev x past now
 
   from-second : (at next past : ℕ) (prev x now : Row) (d : ℤ) (u : Signed) → readSigned true 64 s at ≡ Value d next → readSigned true 64 s next ≡ u → secondOf prev d u ≡ one x past now
-      → Stands at prev x past now
+      → AsWritten at prev x past now
   unfolding secondOf
   from-second at next past prev x now d (Value a p) e f g =
       let w : 0 < 64 = omega arith in
@@ -56,12 +56,12 @@ module _ (s : List ℕ) (bytes : Bytes s) where
       }
   from-second at next past prev x now d (Refused why p) e f g = let z : _≡_ {A = ℕ} 0 1 = cc in absurd (omega arith)
 
-  from-first : (at past : ℕ) (prev x now : Row) (u : Signed) → readSigned true 64 s at ≡ u → firstOf true s prev u ≡ one x past now → Stands at prev x past now
+  from-first : (at past : ℕ) (prev x now : Row) (u : Signed) → readSigned true 64 s at ≡ u → firstOf true s prev u ≡ one x past now → AsWritten at prev x past now
   unfolding firstOf
   from-first at past prev x now (Value d next) e g = from-second at next past prev x now d (readSigned true 64 s next) e refl g
   from-first at past prev x now (Refused why p) e g = let z : _≡_ {A = ℕ} 0 1 = cc in absurd (omega arith)
 
-  record-forth : (at : ℕ) (prev x : Row) (past : ℕ) (now : Row) → Unit {0} → stepAt true s at prev ≡ one x past now → Stands at prev x past now
+  record-forth : (at : ℕ) (prev x : Row) (past : ℕ) (now : Row) → Unit {0} → stepAt true s at prev ≡ one x past now → AsWritten at prev x past now
   unfolding stepAt
   record-forth at prev x past now u g = from-first at past prev x now (readSigned true 64 s at) refl g
 
@@ -94,7 +94,7 @@ module _ (s : List ℕ) (bytes : Bytes s) where
   -- ---- the whole table, however long its list is
   pub build-decode : {l : List Row} → decode true s ≡ accepted l → build l ≡ accepted s
   build-decode {l} e =
-      let h = head (stepAt true s) (length s) start (headAt true s) (sym (parse-is true s) ∙ decode-accepted true s e .1) in
+      let h = announced (stepAt true s) (length s) start (headAt true s) (sym (parse-is true s) ∙ decode-accepted true s e .1) in
       let (p, m) = forth (stepAt true s) putOf behind (λ (x : Row). Unit {0}) s record-forth (h .count) (h .first) 0 start tt (h .all) in
       build-is l ∙ after-accepted (headOf (length l)) p ∙ ap accepted (ap (λ (n : ℕ). headOf n ++ drop (h .first) s) m ∙ sym (head-forth (h .is)))
 

@@ -4,7 +4,6 @@ use Prim.Native.Nat.{ℕ, zero, suc, _+_, _≤_}
 use mathlib.Core.Path.{_≡_, refl, ap, sym, _∙_}
 use mathlib.Core.Bool.{Bool, true, false, cond}
 use mathlib.Core.List.{List, [], _∷_, _++_}
-use native.Mathlib.Omega.{arith}
 use lib.Dec.{ltb}
 use lib.ListN.{length, drop, drop-of-length-le}
 use borrow.Author.Tests.{ltb-false}
@@ -51,16 +50,16 @@ module _ {S A : Type 0} (step : ℕ → S → Step S A) (end : ℕ) where
       go false h e = (ltb-false at end h, cc)
 
 -- a count that was read, and the records that it announces
-pub record Head {S A : Type 0} (step : ℕ → S → Step S A) (end : ℕ) (st : S) (u : Unsigned) (l : List A) : Type 0 where
+pub record Announced {S A : Type 0} (step : ℕ → S → Step S A) (end : ℕ) (st : S) (u : Unsigned) (l : List A) : Type 0 where
   pub count : ℕ
   pub first : ℕ
   pub is : u ≡ unsigned.Value count first
   pub all : records step end count first st ≡ accepted l
 
-pub head : {S A : Type 0} (step : ℕ → S → Step S A) (end : ℕ) (st : S) (u : Unsigned) {l : List A} → counted step end st u ≡ accepted l → Head step end st u l
+pub announced : {S A : Type 0} (step : ℕ → S → Step S A) (end : ℕ) (st : S) (u : Unsigned) {l : List A} → counted step end st u ≡ accepted l → Announced step end st u l
 unfolding counted
-head step end st (unsigned.Value n first) e = record { count = n; first = first; is = refl; all = e }
-head step end st (unsigned.Refused why p) e = absurd (accepted-refused e refl)
+announced step end st (unsigned.Value n first) e = record { count = n; first = first; is = refl; all = e }
+announced step end st (unsigned.Refused why p) e = absurd (accepted-refused e refl)
 
 -- ---- the converse
 -- the record x, read at a place of s after the state st, stands there in the bytes that are written for it after that state; `now` is the state behind it

@@ -1,4 +1,4 @@
--- A table that is accepted strictly is the one that is written for its list, once over the width W; so two such tables of one list are one.
+-- The converse of the round trip, once over the width W: a table that is accepted strictly is the one that is written for its list.
 -- Assumes nothing.
 use Prim.Native.Nat.{ℕ, _+_, _-_, _%_, _^_, _≤_, _<_}
 use mathlib.Core.Path.{_≡_, refl, ap, ap₂, sym, _∙_}
@@ -23,18 +23,14 @@ use Rattle.leb128.proofs.Strict.{strict-unsigned, strict-signed}
 use Rattle.records.specs.Columns.{zipped}
 use Rattle.records.specs.Columns.Laws.{zipped-map}
 use Rattle.records.specs.Reading.{one, none}
-use Rattle.records.proofs.Converse.{Verbatim, head, forth}
+use Rattle.records.proofs.Converse.{Verbatim, announced, forth}
 use Rattle.records.proofs.Writing.{after-accepted}
 use Rattle.wrap.specs.Wrap.{residue, wrapped, same}
 use Rattle.wrap.specs.Wrap.Laws.{residue-lt, residue-small, residue-wrapped, wrapped-range, forth-unsigned, forth-wrapped, forth-none, same-true, same-self}
 use Rattle.relleb_table.specs.Table.{Row, row, State, state, start, behind, noChange, withAddend, withSymbol, withType, withOffset, stepAt, parse, decode, rows, fieldOf, changeBytes, entryBytes, putOf, build, encode}
 use Rattle.relleb_table.specs.Table.Laws.{parse-is, decode-accepted, entry-is, field-is, field-bytes, build-is, encode-in}
 use Rattle.relleb_table.specs.Contract.{offsetOf, typeOf, symbolOf, addendOf}
-use Rattle.relleb_table.proofs.RoundTrip.{put-is}
-
--- the addend before a record has W bits
-abbrev Ranged : ℕ → State → Type 0
-Ranged W prev = mag (prev .addend) < 2 ^ (W - 1)
+use Rattle.relleb_table.proofs.RoundTrip.{put-is, Ranged}
 
 module _ (W : ℕ) (wide : IsWidth W) (s : List ℕ) (bytes : Bytes s) where
   -- ---- from the symbol field on: the record x, behind the addend `base`, has the offset o and the type t, and its bytes stand at a place
@@ -102,11 +98,11 @@ module _ (W : ℕ) (wide : IsWidth W) (s : List ℕ) (bytes : Bytes s) where
   from-symbol base o t at past x now (Refused why p) h f g = let z : _≡_ {A = ℕ} 0 1 = cc in absurd (omega arith)
 
   -- ---- a record: its differences are the numbers that stand there
-  abbrev Stands : ℕ → State → Row → ℕ → State → Type 0
-  Stands at prev x past now = Verbatim (putOf W) behind (Ranged W) s at prev x past now
+  abbrev AsWritten : ℕ → State → Row → ℕ → State → Type 0
+  AsWritten at prev x past now = Verbatim (putOf W) behind (Ranged W) s at prev x past now
 
   from-type : (at next past d : ℕ) (prev : State) (x : Row) (now : State) (u : Signed) → Ranged W prev → readUnsigned true W s at ≡ UValue d next → readSigned true 32 s next ≡ u
-      → withType true W s prev ((prev .offset + d) % 2 ^ W) u ≡ one x past now → Stands at prev x past now
+      → withType true W s prev ((prev .offset + d) % 2 ^ W) u ≡ one x past now → AsWritten at prev x past now
   unfolding withType
   from-type at next past d prev x now (Value t p) r e f g =
       let w : 0 < 32 = omega arith in
@@ -128,19 +124,19 @@ module _ (W : ℕ) (wide : IsWidth W) (s : List ℕ) (bytes : Bytes s) where
       }
   from-type at next past d prev x now (Refused why p) r e f g = let z : _≡_ {A = ℕ} 0 1 = cc in absurd (omega arith)
 
-  from-offset : (at past : ℕ) (prev : State) (x : Row) (now : State) (u : Unsigned) → Ranged W prev → readUnsigned true W s at ≡ u → withOffset true W s prev u ≡ one x past now → Stands at prev x past now
+  from-offset : (at past : ℕ) (prev : State) (x : Row) (now : State) (u : Unsigned) → Ranged W prev → readUnsigned true W s at ≡ u → withOffset true W s prev u ≡ one x past now → AsWritten at prev x past now
   unfolding withOffset
   from-offset at past prev x now (UValue d next) r e g = from-type at next past d prev x now (readSigned true 32 s next) r e refl g
   from-offset at past prev x now (URefused why p) r e g = let z : _≡_ {A = ℕ} 0 1 = cc in absurd (omega arith)
 
-  record-forth : (at : ℕ) (prev : State) (x : Row) (past : ℕ) (now : State) → Ranged W prev → stepAt true W s at prev ≡ one x past now → Stands at prev x past now
+  record-forth : (at : ℕ) (prev : State) (x : Row) (past : ℕ) (now : State) → Ranged W prev → stepAt true W s at prev ≡ one x past now → AsWritten at prev x past now
   unfolding stepAt
   record-forth at prev x past now r g = from-offset at past prev x now (readUnsigned true W s at) r refl g
 
   -- ---- the whole table, however long its list is
   pub build-decode : {l : List Row} → decode true W s ≡ accepted l → build W l ≡ accepted s
   build-decode {l} e =
-      let h = head (stepAt true W s) (length s) start (readUnsigned true 64 s 0) (sym (parse-is true W s) ∙ decode-accepted true W s e .1) in
+      let h = announced (stepAt true W s) (length s) start (readUnsigned true 64 s 0) (sym (parse-is true W s) ∙ decode-accepted true W s e .1) in
       let (p, m) = forth (stepAt true W s) (putOf W) behind (Ranged W) s record-forth (h .count) (h .first) 0 start (pow-pos (W - 1)) (h .all) in
       build-is W l ∙ after-accepted (shortUnsigned (length l)) p
       ∙ ap accepted (ap (λ (n : ℕ). shortUnsigned n ++ drop (h .first) s) m ∙ sym (strict-unsigned 64 s 0 (omega arith) bytes (h .is)))

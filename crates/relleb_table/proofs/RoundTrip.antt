@@ -103,7 +103,7 @@ module _ (W : ℕ) (wide : IsWidth W) where
       omega (arith, ap length (c .whole), length-append (shortUnsigned (length l)) (c .rest), unsigned-bytes 64 (length l) (omega arith) h)
 
 -- the addend before a record has W bits
-abbrev Ranged : ℕ → State → Type 0
+abbrev pub Ranged : ℕ → State → Type 0
 Ranged W prev = mag (prev .addend) < 2 ^ (W - 1)
 
 module _ (strict : Bool) (W : ℕ) (wide : IsWidth W) where

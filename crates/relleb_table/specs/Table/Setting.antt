@@ -20,7 +20,7 @@ use Rattle.leb128.specs.declared.Signed.the-variants.{Value, Refused}
 use Rattle.leb128.specs.declared.Unsigned.{Unsigned}
 use Rattle.leb128.specs.declared.Unsigned.the-variants.{Value as UValue, Refused as URefused}
 use Rattle.leb128.proofs.Setting.{unless-unsigned, unless-signed}
-use Rattle.records.specs.Reading.{Step, one, none}
+use Rattle.records.specs.Reading.{one, none}
 use Rattle.records.proofs.Unless.{unless-counted}
 use Rattle.wrap.specs.Wrap.{wrapped}
 use Rattle.relleb_table.specs.Table.{Row, row, State, state, start, noChange, withAddend, withSymbol, withType, withOffset, stepAt, parse, decode}
