@@ -77,7 +77,7 @@ fn every_damage_is_met() {
     let (mut met, mut padded) = (HashSet::new(), HashSet::new());
     let (mut kept, mut refused) = (HashSet::new(), HashSet::new());
     for _ in 0..20_000 {
-        let Made { case, damage: Some(damage) } = generate::case(&mut rng) else {
+        let Made { case, damage: Some(damage), .. } = generate::case(&mut rng) else {
             continue;
         };
         met.insert((damage as usize, (case.call, case.class, case.is_twin())));
