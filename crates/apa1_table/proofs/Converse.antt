@@ -22,8 +22,7 @@ use Rattle.records.specs.Columns.Laws.{zipped-map}
 use Rattle.records.specs.Identifier.{startsWith}
 use Rattle.records.specs.Identifier.Laws.{starts-whole}
 use Rattle.records.specs.Reading.{one}
-use Rattle.records.proofs.Converse.{Verbatim, announced, forth}
-use Rattle.records.proofs.Writing.{after-accepted}
+use Rattle.records.proofs.Converse.{Verbatim, forth-counted}
 use Rattle.wrap.specs.Wrap.{residue, wrapped}
 use Rattle.wrap.specs.Wrap.Laws.{residue-lt, residue-small, residue-wrapped, forth-wrapped}
 use Rattle.apa1_table.specs.Table.{Row, row, start, identifier, secondOf, firstOf, stepAt, plain, countOf, headAt, parse, decode, rows, entryBytes, putOf, behind, headOf, build, encode}
@@ -94,9 +93,8 @@ module _ (s : List ℕ) (bytes : Bytes s) where
   -- ---- the whole table, however long its list is
   pub build-decode : {l : List Row} → decode true s ≡ accepted l → build l ≡ accepted s
   build-decode {l} e =
-      let h = announced (stepAt true s) (length s) start (headAt true s) (sym (parse-is true s) ∙ decode-accepted true s e .1) in
-      let (p, m) = forth (stepAt true s) putOf behind (λ (x : Row). Unit {0}) s record-forth (h .count) (h .first) 0 start tt (h .all) in
-      build-is l ∙ after-accepted (headOf (length l)) p ∙ ap accepted (ap (λ (n : ℕ). headOf n ++ drop (h .first) s) m ∙ sym (head-forth (h .is)))
+      build-is l ∙ forth-counted (stepAt true s) putOf behind (λ (x : Row). Unit {0}) s record-forth headOf start tt (headAt true s) (λ n first h. head-forth h)
+      (sym (parse-is true s) ∙ decode-accepted true s e .1)
 
   -- the converse of the round trip: a table that decodes strictly to a list within its limit is the one that is written for it
   pub encode-decode : {l : List Row} → decode true s ≡ accepted l → length l ≤ listLimit → encode l ≡ accepted s

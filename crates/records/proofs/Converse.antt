@@ -8,10 +8,10 @@ use lib.Dec.{ltb}
 use lib.ListN.{length, drop, drop-of-length-le}
 use borrow.Author.Tests.{ltb-false}
 use Rattle.answer.specs.declared.Refusal.the-variants.{Trailing}
-use Rattle.answer.specs.Outcome.{Outcome, accepted, refused, before}
+use Rattle.answer.specs.Outcome.{Outcome, accepted, refused, before, after}
 use Rattle.answer.specs.Outcome.Laws.{accepted-refused}
 use Rattle.leb128.specs.declared.Unsigned.{Unsigned}
-use Rattle.leb128.specs.declared.Unsigned.the-variants as unsigned
+use Rattle.leb128.specs.declared.Unsigned.the-variants.{Value, Refused}
 use Rattle.records.proofs.Writing.{after-accepted}
 use Rattle.records.specs.Reading.{Step, one, none, stepThen, records, counted}
 use Rattle.records.specs.Writing.{Put, bytes, puts}
@@ -49,18 +49,6 @@ module _ {S A : Type 0} (step : ℕ → S → Step S A) (end : ℕ) where
       go true h e = absurd (accepted-refused e refl)
       go false h e = (ltb-false at end h, cc)
 
--- a count that was read, and the records that it announces
-pub record Announced {S A : Type 0} (step : ℕ → S → Step S A) (end : ℕ) (st : S) (u : Unsigned) (l : List A) : Type 0 where
-  pub count : ℕ
-  pub first : ℕ
-  pub is : u ≡ unsigned.Value count first
-  pub all : records step end count first st ≡ accepted l
-
-pub announced : {S A : Type 0} (step : ℕ → S → Step S A) (end : ℕ) (st : S) (u : Unsigned) {l : List A} → counted step end st u ≡ accepted l → Announced step end st u l
-unfolding counted
-announced step end st (unsigned.Value n first) e = record { count = n; first = first; is = refl; all = e }
-announced step end st (unsigned.Refused why p) e = absurd (accepted-refused e refl)
-
 -- ---- the converse
 -- the record x, read at a place of s after the state st, stands there in the bytes that are written for it after that state; `now` is the state behind it
 pub record Verbatim {S A : Type 0} (put : S → A → Put) (next : S → A → S) (Good : S → Type 0) (s : List ℕ) (at : ℕ) (st : S) (x : A) (past : ℕ) (now : S) : Type 0 where
@@ -73,7 +61,7 @@ pub record Verbatim {S A : Type 0} (put : S → A → Put) (next : S → A → S
 module _ {S A : Type 0} (step : ℕ → S → Step S A) (put : S → A → Put) (next : S → A → S) (Good : S → Type 0) (s : List ℕ)
     (each : (at : ℕ) (st : S) (x : A) (past : ℕ) (now : S) → Good st → step at st ≡ one x past now → Verbatim put next Good s at st x past now) where
   -- n records from a place on are so many, and the bytes from there on are those that are written for them
-  pub forth : (n at i : ℕ) (st : S) {l : List A} → Good st → records step (length s) n at st ≡ accepted l → (puts put next i st l ≡ accepted (drop at s)) × (length l ≡ n)
+  forth : (n at i : ℕ) (st : S) {l : List A} → Good st → records step (length s) n at st ≡ accepted l → (puts put next i st l ≡ accepted (drop at s)) × (length l ≡ n)
   forth zero at i st {l} g e =
       let (h, z) = taken-none step (length s) at st e in
       (ap (puts put next i st) z ∙ puts-end put next i st ∙ ap accepted (sym (drop-of-length-le s h)), ap length z)
@@ -85,3 +73,13 @@ module _ {S A : Type 0} (step : ℕ → S → Step S A) (put : S → A → Put) 
         ap (puts put next i st) (c .whole) ∙ puts-more put next i st (c .first) (c .rest) (v .is) ∙ after-accepted (v .own) q ∙ ap accepted (sym (v .here)),
         ap length (c .whole) ∙ ap suc m,
       )
+
+  -- so of a whole table: what a count announces, behind a head that stands there as it is written for so many records
+  module _ (headOf : ℕ → List ℕ) (st : S) (good : Good st) {l : List A} where
+    pub forth-counted : (u : Unsigned) → ((n first : ℕ) → u ≡ Value n first → s ≡ headOf n ++ drop first s) → counted step (length s) st u ≡ accepted l
+        → after (headOf (length l)) (puts put next 0 st l) ≡ accepted s
+    unfolding counted
+    forth-counted (Value n first) heads e =
+        let (p, m) = forth n first 0 st good e in
+        after-accepted (headOf (length l)) p ∙ ap accepted (ap (λ (k : ℕ). headOf k ++ drop first s) m ∙ sym (heads n first refl))
+    forth-counted (Refused why p) heads e = absurd (accepted-refused e refl)

@@ -23,8 +23,7 @@ use Rattle.leb128.proofs.Strict.{strict-unsigned, strict-signed}
 use Rattle.records.specs.Columns.{zipped}
 use Rattle.records.specs.Columns.Laws.{zipped-map}
 use Rattle.records.specs.Reading.{one, none}
-use Rattle.records.proofs.Converse.{Verbatim, announced, forth}
-use Rattle.records.proofs.Writing.{after-accepted}
+use Rattle.records.proofs.Converse.{Verbatim, forth-counted}
 use Rattle.wrap.specs.Wrap.{residue, wrapped, same}
 use Rattle.wrap.specs.Wrap.Laws.{residue-lt, residue-small, residue-wrapped, wrapped-range, forth-unsigned, forth-wrapped, forth-none, same-true, same-self}
 use Rattle.relleb_table.specs.Table.{Row, row, State, state, start, behind, noChange, withAddend, withSymbol, withType, withOffset, stepAt, parse, decode, rows, fieldOf, changeBytes, entryBytes, putOf, build, encode}
@@ -136,10 +135,8 @@ module _ (W : ℕ) (wide : IsWidth W) (s : List ℕ) (bytes : Bytes s) where
   -- ---- the whole table, however long its list is
   pub build-decode : {l : List Row} → decode true W s ≡ accepted l → build W l ≡ accepted s
   build-decode {l} e =
-      let h = announced (stepAt true W s) (length s) start (readUnsigned true 64 s 0) (sym (parse-is true W s) ∙ decode-accepted true W s e .1) in
-      let (p, m) = forth (stepAt true W s) (putOf W) behind (Ranged W) s record-forth (h .count) (h .first) 0 start (pow-pos (W - 1)) (h .all) in
-      build-is W l ∙ after-accepted (shortUnsigned (length l)) p
-      ∙ ap accepted (ap (λ (n : ℕ). shortUnsigned n ++ drop (h .first) s) m ∙ sym (strict-unsigned 64 s 0 (omega arith) bytes (h .is)))
+      build-is W l ∙ forth-counted (stepAt true W s) (putOf W) behind (Ranged W) s record-forth shortUnsigned start (pow-pos (W - 1)) (readUnsigned true 64 s 0)
+      (λ n first h. strict-unsigned 64 s 0 (omega arith) bytes h) (sym (parse-is true W s) ∙ decode-accepted true W s e .1)
 
   -- the converse of the round trip: a table that decodes strictly to a list within its limit is the one that is written for it
   pub encode-decode : {l : List Row} → decode true W s ≡ accepted l → length l ≤ listLimit → encode W l ≡ accepted s
