@@ -1,4 +1,6 @@
 // APA1, the 64-bit packed table of offsets with addends: an identifier, a count, and for each record the differences to the one before it.
+#![tactic(auto)]
+
 ghost use Rattle.apa1_table.specs.Contract.{Reads, Writes};
 
 use answer::{Answer, Found, Refusal};

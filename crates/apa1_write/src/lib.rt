@@ -1,4 +1,6 @@
 // The writer of APA1 tables: a first pass that counts the table's bytes, and a second that puts them.
+#![tactic(auto)]
+
 ghost use Rattle.std.specs.Prelude.{◌≡◌, ◌+◌, ◌^◌, ◌≤◌, ◌<◌, length};
 ghost use Rattle.records.specs.Writing.{puts, Puts};
 ghost use Rattle.apa1_table.specs.Table.{row, start, rows, entry_bytes, put_of, behind, head_of, encode};

@@ -1,4 +1,6 @@
 // APR1, the 32-bit packed table of offsets: an identifier, a first offset, and pairs of a count and a gap.
+#![tactic(auto)]
+
 ghost use Rattle.apr1_table.specs.Contract.{Reads, Writes};
 
 use answer::{Answer, Found};

@@ -1,5 +1,7 @@
 // The reader of APR1 tables: a first pass over the table, strict or lax, and a second that fills the column. The second reads laxly: of a
 // table that the first accepted strictly too, that is the same list.
+#![tactic(auto)]
+
 ghost use Rattle.std.specs.Prelude.{◌≡◌, false, ◌+◌, ◌≤◌, length};
 ghost use Rattle.answer.specs.Outcome.{found_of, input_limit};
 ghost use Rattle.answer.specs.Written.{Written};

@@ -1,4 +1,6 @@
 // The writer of APR1 tables: a first pass that checks the list and counts the table's bytes, and a second that puts them.
+#![tactic(auto)]
+
 ghost use Rattle.std.specs.Prelude.{◌≡◌, ◌+◌, ◌≤◌, ◌<◌, length};
 ghost use Rattle.apr1_table.specs.Table.{pair, one_pair, head_of};
 ghost use Rattle.apr1_table.specs.Inner.{Run};

@@ -1,4 +1,6 @@
 // Runs worked tables and published examples, and prints what the calls answered.
+#![tactic(auto)]
+
 mod leb;
 mod offsets;
 mod tables;

@@ -1,4 +1,6 @@
 // Lists the table on standard input. No contract can say what a program reads or writes: `listing` says what the text is.
+#![tactic(auto)]
+
 use libc::{STDIN_FILENO, STDOUT_FILENO};
 
 fn main() {

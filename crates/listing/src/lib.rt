@@ -1,4 +1,6 @@
 // The listing of a table: from the program's whole input to its whole text.
+#![tactic(auto)]
+
 ghost use Rattle.std.specs.Prelude.{◌≤◌, length, take};
 ghost use Rattle.listing.specs.Contract.{Lists};
 ghost use Rattle.listing.specs.Inner.{Copies};

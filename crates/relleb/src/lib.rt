@@ -1,4 +1,6 @@
 // RELLEB, the packed table of whole relocation records: a count, and for each record its differences to the one before it.
+#![tactic(auto)]
+
 ghost use Rattle.std.specs.Prelude.{◌≡◌};
 ghost use Rattle.relleb_table.specs.Contract.{even, Reads, Writes};
 

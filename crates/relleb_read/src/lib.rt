@@ -1,5 +1,7 @@
 // The reader of RELLEB tables: a first pass over the table, strict or lax, and a second that fills the columns. The second reads laxly: of a
 // table that the first accepted strictly too, that is the same list. The width is the class's.
+#![tactic(auto)]
+
 ghost use Rattle.std.specs.Prelude.{◌≡◌, false, ◌^◌, ◌<◌, length};
 ghost use Rattle.std.specs.Int.Signed.{mag};
 ghost use Rattle.answer.specs.Outcome.{found_of};

@@ -1,4 +1,6 @@
 // The writer of RELLEB tables: a first pass that counts the table's bytes, and a second that puts them. The width is the class's.
+#![tactic(auto)]
+
 ghost use Rattle.std.specs.Prelude.{◌≡◌, cond, ◌+◌, ◌≤◌, pos, negsuc, length};
 ghost use Rattle.answer.specs.Written.{Written};
 ghost use Rattle.leb128.specs.Number.{IsWidth};

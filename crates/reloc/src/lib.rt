@@ -1,4 +1,6 @@
 // The static library: every call for programs in C and Rust, with the contract of the call behind it.
+#![tactic(auto)]
+
 ghost use Rattle.std.specs.Prelude.{◌≡◌};
 ghost use Rattle.reloc.specs.Version.{version};
 ghost use Rattle.word.specs.Class.{order_of};

@@ -1,4 +1,6 @@
 // RELR tables: read, written and applied.
+#![tactic(auto)]
+
 ghost use Rattle.relr_table.specs.Contract.{Reads, Writes, Applies};
 
 use answer::{Answer, Refusal};

@@ -1,4 +1,6 @@
 // Applying a table to an image: an addition for each offset.
+#![tactic(auto)]
+
 ghost use Rattle.std.specs.Prelude.{◌≡◌, ◌+◌, ◌/◌, ◌≤◌, length};
 ghost use Rattle.word.specs.Class.{bytes_of, window_of};
 ghost use Rattle.relr_table.specs.Table.{above, added, patched};

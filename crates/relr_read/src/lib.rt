@@ -1,4 +1,6 @@
 // Reading a table into a column of offsets.
+#![tactic(auto)]
+
 ghost use Rattle.answer.specs.Outcome.{Gives};
 ghost use Rattle.answer.specs.Written.{Written};
 ghost use Rattle.relr_table.specs.Table.{decode};

@@ -1,4 +1,6 @@
 // Writing a list of offsets as a table.
+#![tactic(auto)]
+
 ghost use Rattle.std.specs.Prelude.{◌≡◌, ◌≤◌, [], ◌∷◌, ◌++◌, length, drop};
 ghost use Rattle.answer.specs.Outcome.{found_of, list_limit};
 ghost use Rattle.answer.specs.Written.{Written};

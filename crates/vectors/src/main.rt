@@ -1,5 +1,7 @@
 // Runs the reference's corpus through every call: a case on standard input gives a line on standard output. `reference/FORMAT.md`
 // has both. What the calls answer is proved where they are; nothing is claimed here but that the program is safe and ends.
+#![tactic(auto)]
+
 mod calls;
 mod input;
 mod output;

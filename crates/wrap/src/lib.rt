@@ -1,4 +1,6 @@
 // Sums and differences that wrap at a width, of unsigned and of signed numbers.
+#![tactic(auto)]
+
 ghost use Rattle.std.specs.Prelude.{◌≡◌, ◌+◌, ◌-◌, ◌%◌, ◌^◌, ◌<◌, pos, negsuc, ◌+ℤ◌, ◌-ℤ◌, nat_lt};
 ghost use Rattle.std.specs.Int.Signed.{mag};
 ghost use Rattle.leb128.specs.Number.{IsWidth};

@@ -36,8 +36,8 @@ magnitude-requires c κs = search rules
 returns-2 : tie.Need-returns-2
 returns-2 c = search counts
 
-pub count-at-spec : {M : Type 1} → statement M
-count-at-spec =
+pub count_at_spec : {M : Type 1} → statement M
+count_at_spec =
     tie.close
     (tie.spec
     read-signed-requires

@@ -19,5 +19,5 @@ end-number-requires-2 c κs = search rules
 returns-2 : tie.Need-returns-2
 returns-2 c = record_ends _ _ _ c.before.before.end-number.ensures c.before.if1.false c.end-number2.ensures
 
-pub end-at-spec : {M : Type 1} → statement M
-end-at-spec = tie.close (tie.spec end-number-requires returns end-number-requires-2 returns-2)
+pub end_at_spec : {M : Type 1} → statement M
+end_at_spec = tie.close (tie.spec end-number-requires returns end-number-requires-2 returns-2)

@@ -42,8 +42,8 @@ add-signed-requires c κs = search rules
 returns-3 : tie.Need-returns-3
 returns-3 c = search entries
 
-pub entry-at-spec : {M : Type 1} → statement M
-entry-at-spec =
+pub entry_at_spec : {M : Type 1} → statement M
+entry_at_spec =
     tie.close
     (tie.spec
     read-signed-requires

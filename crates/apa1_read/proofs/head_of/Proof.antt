@@ -54,8 +54,8 @@ count-at-requires c κs = search rules
 returns-4 : tie.Need-returns-4
 returns-4 c = search heads
 
-pub head-of-spec : {M : Type 1} → statement M
-head-of-spec =
+pub head_of_spec : {M : Type 1} → statement M
+head_of_spec =
     tie.close
     (tie.spec
     identified-requires

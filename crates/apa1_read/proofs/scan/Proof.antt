@@ -24,8 +24,8 @@ walk-requires c κs = search rules
 returns-2 : tie.Need-returns-2
 returns-2 c = search fills
 
-pub scan-spec : {M : Type 1} → statement M
-scan-spec =
+pub scan_spec : {M : Type 1} → statement M
+scan_spec =
     tie.close
     (tie.spec
     head-of-requires

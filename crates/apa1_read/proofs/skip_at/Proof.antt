@@ -18,5 +18,5 @@ skip-by-numbers-requires c κs = search rules
 returns-2 : tie.Need-returns-2
 returns-2 c = search rules
 
-pub skip-at-spec : {M : Type 1} → statement M
-skip-at-spec = tie.close (tie.spec end-at-requires returns skip-by-numbers-requires returns-2)
+pub skip_at_spec : {M : Type 1} → statement M
+skip_at_spec = tie.close (tie.spec end-at-requires returns skip-by-numbers-requires returns-2)

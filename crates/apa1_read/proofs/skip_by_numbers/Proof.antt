@@ -20,8 +20,8 @@ read-signed-requires-2 c κs = search skips
 returns-2 : tie.Need-returns-2
 returns-2 c = search skips
 
-pub skip-by-numbers-spec : {M : Type 1} → statement M
-skip-by-numbers-spec =
+pub skip_by_numbers_spec : {M : Type 1} → statement M
+skip_by_numbers_spec =
     tie.close
     (tie.spec
     read-signed-requires

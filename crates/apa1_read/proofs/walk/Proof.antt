@@ -41,8 +41,8 @@ returns-2 c = search walks
 returns-3 : tie.Need-returns-3 invariant-loop decreases-loop
 returns-3 c = search walks
 
-pub walk-spec : {M : Type 1} → statement M
-walk-spec =
+pub walk_spec : {M : Type 1} → statement M
+walk_spec =
     tie.close
     (tie.spec
     invariant-loop

@@ -21,8 +21,8 @@ add-result c = search lengths
 returns : tie.Need-returns
 returns c = search lengths
 
-pub entry-len-spec : {M : Type 1} → statement M
-entry-len-spec =
+pub entry_len_spec : {M : Type 1} → statement M
+entry_len_spec =
     tie.close
     (tie.spec
     distance-requires

@@ -15,5 +15,5 @@ add-result c = search headings
 returns : tie.Need-returns
 returns c = search headings
 
-pub head-len-spec : {M : Type 1} → statement M
-head-len-spec = tie.close (tie.spec cast-signed-len signed-len-requires add-result returns)
+pub head_len_spec : {M : Type 1} → statement M
+head_len_spec = tie.close (tie.spec cast-signed-len signed-len-requires add-result returns)

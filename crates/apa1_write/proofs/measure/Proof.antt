@@ -15,5 +15,5 @@ size-requires c κs = search rules
 returns-2 : tie.Need-returns-2
 returns-2 c = search rules
 
-pub measure-spec : {M : Type 1} → statement M
-measure-spec = tie.close (tie.spec returns size-requires returns-2)
+pub measure_spec : {M : Type 1} → statement M
+measure_spec = tie.close (tie.spec returns size-requires returns-2)

@@ -43,8 +43,8 @@ same_length c = search puttings
 returns : tie.Need-returns invariant-loop decreases-loop
 returns c = search puttings
 
-pub put-all-spec : {M : Type 1} → statement M
-put-all-spec =
+pub put_all_spec : {M : Type 1} → statement M
+put_all_spec =
     tie.close
     (tie.spec
     invariant-loop

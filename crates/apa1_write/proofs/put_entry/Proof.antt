@@ -21,8 +21,8 @@ same_length c = search rules
 returns : tie.Need-returns
 returns c = search puttings
 
-pub put-entry-spec : {M : Type 1} → statement M
-put-entry-spec =
+pub put_entry_spec : {M : Type 1} → statement M
+put_entry_spec =
     tie.close
     (tie.spec
     distance-requires

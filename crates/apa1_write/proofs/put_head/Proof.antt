@@ -21,8 +21,8 @@ same_length c = search rules
 returns : tie.Need-returns
 returns c = search headings
 
-pub put-head-spec : {M : Type 1} → statement M
-put-head-spec =
+pub put_head_spec : {M : Type 1} → statement M
+put_head_spec =
     tie.close
     (tie.spec
     slice-aggregate-put-identifier

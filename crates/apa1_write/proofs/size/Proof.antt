@@ -46,8 +46,8 @@ loop-again c = search sizes
 returns : tie.Need-returns invariant-loop decreases-loop
 returns c = search sizes
 
-pub size-spec : {M : Type 1} → statement M
-size-spec =
+pub size_spec : {M : Type 1} → statement M
+size_spec =
     tie.close
     (tie.spec
     invariant-loop

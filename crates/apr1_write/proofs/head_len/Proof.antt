@@ -15,5 +15,5 @@ add-result c = search lengths
 returns : tie.Need-returns
 returns c = search lengths
 
-pub head-len-spec : {M : Type 1} → statement M
-head-len-spec = tie.close (tie.spec pair-len-requires add-result returns)
+pub head_len_spec : {M : Type 1} → statement M
+head_len_spec = tie.close (tie.spec pair-len-requires add-result returns)

@@ -22,5 +22,5 @@ returns-3 : tie.Need-returns-3
 unfolding list_limit
 returns-3 c = search measures
 
-pub measure-spec : {M : Type 1} → statement M
-measure-spec = tie.close (tie.spec returns returns-2 size-requires returns-3)
+pub measure_spec : {M : Type 1} → statement M
+measure_spec = tie.close (tie.spec returns returns-2 size-requires returns-3)

@@ -18,6 +18,6 @@ add-result c = search lengths
 returns : tie.Need-returns
 returns c = search lengths
 
-pub pair-len-spec : {M : Type 1} → statement M
-pair-len-spec =
+pub pair_len_spec : {M : Type 1} → statement M
+pair_len_spec =
     tie.close (tie.spec unsigned-len-requires unsigned-len-requires-2 add-result returns)

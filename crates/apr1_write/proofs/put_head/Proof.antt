@@ -22,8 +22,8 @@ same_length c = search rules
 returns : tie.Need-returns
 returns c = search lengths
 
-pub put-head-spec : {M : Type 1} → statement M
-put-head-spec =
+pub put_head_spec : {M : Type 1} → statement M
+put_head_spec =
     tie.close
     (tie.spec
     slice-aggregate-put-identifier

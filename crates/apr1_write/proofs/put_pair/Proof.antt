@@ -18,6 +18,6 @@ same_length c = search rules
 returns : tie.Need-returns
 returns c = search lengths
 
-pub put-pair-spec : {M : Type 1} → statement M
-put-pair-spec =
+pub put_pair_spec : {M : Type 1} → statement M
+put_pair_spec =
     tie.close (tie.spec write-unsigned-requires write-unsigned-requires-2 same_length returns)

@@ -65,8 +65,8 @@ same_length c = search puttings
 returns : tie.Need-returns invariant-loop decreases-loop
 returns c = search puttings
 
-pub put-pairs-spec : {M : Type 1} → statement M
-put-pairs-spec =
+pub put_pairs_spec : {M : Type 1} → statement M
+put_pairs_spec =
     tie.close
     (tie.spec
     invariant-loop

@@ -57,8 +57,8 @@ sub-result-4 c = search counts
 returns-4 : tie.Need-returns-4 invariant-loop decreases-loop
 returns-4 c = search counts
 
-pub run-from-spec : {M : Type 1} → statement M
-run-from-spec =
+pub run_from_spec : {M : Type 1} → statement M
+run_from_spec =
     tie.close
     (tie.spec
     invariant-loop

@@ -84,8 +84,8 @@ add-t24 c = search sizes
 returns-4 : tie.Need-returns-4 invariant-loop decreases-loop
 returns-4 c = search sizes
 
-pub size-spec : {M : Type 1} → statement M
-size-spec =
+pub size_spec : {M : Type 1} → statement M
+size_spec =
     tie.close
     (tie.spec
     invariant-loop

@@ -29,8 +29,8 @@ returns-2 c = λ h. (let e = subst (EndsSigned _ _ _ _) c.before.past2.given.1 c
 returns-3 : tie.Need-returns-3
 returns-3 c = λ h. absurd (omega arith)
 
-pub end-number-spec : {M : Type 1} → statement M
-end-number-spec =
+pub end_number_spec : {M : Type 1} → statement M
+end_number_spec =
     tie.close
     (tie.spec
     end-signed-requires

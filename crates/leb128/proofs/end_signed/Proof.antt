@@ -43,8 +43,8 @@ returns-3 c = (let plain = c.before in let run = plain.before.before.before in
 returns-4 : tie.Need-returns-4
 returns-4 c = search rules
 
-pub end-signed-spec : {M : Type 1} → statement M
-end-signed-spec =
+pub end_signed_spec : {M : Type 1} → statement M
+end_signed_spec =
     tie.close
     (tie.spec
     sub-scan

@@ -40,8 +40,8 @@ returns-2 c = (let plain = c in let run = plain.before.before.before in
 returns-3 : tie.Need-returns-3
 returns-3 c = λ h. absurd (omega arith)
 
-pub end-unsigned-spec : {M : Type 1} → statement M
-end-unsigned-spec =
+pub end_unsigned_spec : {M : Type 1} → statement M
+end_unsigned_spec =
     tie.close
     (tie.spec
     sub-scan

@@ -47,8 +47,8 @@ returns-4 c = one_signed c.before.before.args.strict _ _ _ c.before.before.requi
 returns-5 : tie.Need-returns-5
 returns-5 c = never_lax c.before.args.strict _ _ c.if1.false
 
-pub padded-signed-spec : {M : Type 1} → statement M
-padded-signed-spec =
+pub padded_signed_spec : {M : Type 1} → statement M
+padded_signed_spec =
     tie.close
     (tie.spec
     sub-result

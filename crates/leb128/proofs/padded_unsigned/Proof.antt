@@ -17,5 +17,5 @@ returns-2 c = search paddings
 returns-3 : tie.Need-returns-3
 returns-3 c = search rules
 
-pub padded-unsigned-spec : {M : Type 1} → statement M
-padded-unsigned-spec = tie.close (tie.spec returns returns-2 returns-3)
+pub padded_unsigned_spec : {M : Type 1} → statement M
+padded_unsigned_spec = tie.close (tie.spec returns returns-2 returns-3)

@@ -41,8 +41,8 @@ below-requires c κs = search rules
 returns-3 : tie.Need-returns-3
 returns-3 c = plain_in_signed c.before.before.before.before.before.before.args.strict _ _ _ _ c.before.before.before.before.padded-signed.ensures c.before.before.before.if1.false c.before.before.before.before.before.before.requires.0 c.before.turned.ensures.0 c.below.ensures
 
-pub plain-signed-spec : {M : Type 1} → statement M
-plain-signed-spec =
+pub plain_signed_spec : {M : Type 1} → statement M
+plain_signed_spec =
     tie.close
     (tie.spec
     padded-signed-requires

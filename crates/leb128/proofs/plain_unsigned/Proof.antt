@@ -34,8 +34,8 @@ below-requires c κs = search rules
 returns-3 : tie.Need-returns-3
 returns-3 c = plain_in c.before.before.before.before.args.strict _ _ _ _ c.before.before.before.padded-unsigned.ensures c.before.before.if1.false c.before.before.before.before.requires.0 c.below.ensures
 
-pub plain-unsigned-spec : {M : Type 1} → statement M
-plain-unsigned-spec =
+pub plain_unsigned_spec : {M : Type 1} → statement M
+plain_unsigned_spec =
     tie.close
     (tie.spec
     padded-unsigned-requires

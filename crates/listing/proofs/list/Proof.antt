@@ -25,8 +25,8 @@ same_length c = search rules
 returns : tie.Need-returns
 returns c = search listings
 
-pub list-spec : {M : Type 1} → statement M
-list-spec =
+pub list_spec : {M : Type 1} → statement M
+list_spec =
     tie.close
     (tie.spec
     slice-aggregate-put-text

@@ -11,5 +11,5 @@ returns-2 c = search evens
 returns-3 : tie.Need-returns-3
 returns-3 c = search evens
 
-pub same-length-spec : {M : Type 1} → statement M
-same-length-spec = tie.close (tie.spec returns returns-2 returns-3)
+pub same_length_spec : {M : Type 1} → statement M
+same_length_spec = tie.close (tie.spec returns returns-2 returns-3)

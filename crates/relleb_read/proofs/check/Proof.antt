@@ -15,5 +15,5 @@ returns-2 : tie.Need-returns-2
 unfolding input_limit
 returns-2 c = search checks
 
-pub check-spec : {M : Type 1} → statement M
-check-spec = tie.close (tie.spec returns scan-requires returns-2)
+pub check_spec : {M : Type 1} → statement M
+check_spec = tie.close (tie.spec returns scan-requires returns-2)

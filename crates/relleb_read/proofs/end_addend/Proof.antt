@@ -20,5 +20,5 @@ end-number-requires c κs = search rules
 returns-2 : tie.Need-returns-2
 returns-2 c = addend_ends _ _ _ _ (search rules) (c.before.before.zero-at.ensures c.before.if1.false) c.end-number.ensures
 
-pub end-addend-spec : {M : Type 1} → statement M
-end-addend-spec = tie.close (tie.spec zero-at-requires returns end-number-requires returns-2)
+pub end_addend_spec : {M : Type 1} → statement M
+end_addend_spec = tie.close (tie.spec zero-at-requires returns end-number-requires returns-2)

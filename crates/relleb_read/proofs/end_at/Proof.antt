@@ -27,8 +27,8 @@ end-symbol-requires c κs = search rules
 returns-3 : tie.Need-returns-3
 returns-3 c = record_ends _ _ _ _ c.before.before.before.before.end-unsigned.ensures c.before.before.before.if1.false c.before.before.end-number.ensures c.before.if2.false c.end-symbol.ensures
 
-pub end-at-spec : {M : Type 1} → statement M
-end-at-spec =
+pub end_at_spec : {M : Type 1} → statement M
+end_at_spec =
     tie.close
     (tie.spec
     end-unsigned-requires

@@ -34,8 +34,8 @@ returns-2 c = symbol_goes _ _ _ _ (subst (EndsSigned _ _ _ _) c.before.before.ne
 returns-3 : tie.Need-returns-3
 returns-3 c = λ h. absurd (omega arith)
 
-pub end-symbol-spec : {M : Type 1} → statement M
-end-symbol-spec =
+pub end_symbol_spec : {M : Type 1} → statement M
+end_symbol_spec =
     tie.close
     (tie.spec
     end-signed-requires

@@ -18,5 +18,5 @@ returns c = search changes
 returns-2 : tie.Need-returns-2
 returns-2 c = search rules
 
-pub no-change-spec : {M : Type 1} → statement M
-no-change-spec = tie.close (tie.spec equal-requires returns returns-2)
+pub no_change_spec : {M : Type 1} → statement M
+no_change_spec = tie.close (tie.spec equal-requires returns returns-2)

@@ -35,8 +35,8 @@ returns-2 c = search changes
 returns-3 : tie.Need-returns-3
 returns-3 c = search changes
 
-pub skip-addend-spec : {M : Type 1} → statement M
-skip-addend-spec =
+pub skip_addend_spec : {M : Type 1} → statement M
+skip_addend_spec =
     tie.close
     (tie.spec
     read-signed-requires

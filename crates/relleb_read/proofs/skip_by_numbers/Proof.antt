@@ -54,8 +54,8 @@ returns-4 c = search skips
 returns-5 : tie.Need-returns-5
 returns-5 c = search skips
 
-pub skip-by-numbers-spec : {M : Type 1} → statement M
-skip-by-numbers-spec =
+pub skip_by_numbers_spec : {M : Type 1} → statement M
+skip_by_numbers_spec =
     tie.close
     (tie.spec
     read-unsigned-requires

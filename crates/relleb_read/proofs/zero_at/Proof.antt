@@ -25,5 +25,5 @@ returns-2 c = λ h. changes_past _ _ c.before.before.args.strict c.if2.false
 returns-3 : tie.Need-returns-3
 returns-3 c = λ h. changes_lax _ _ c.before.args.strict c.if1.false
 
-pub zero-at-spec : {M : Type 1} → statement M
-zero-at-spec = tie.close (tie.spec shared-slice-read-result returns returns-2 returns-3)
+pub zero_at_spec : {M : Type 1} → statement M
+zero_at_spec = tie.close (tie.spec shared-slice-read-result returns returns-2 returns-3)

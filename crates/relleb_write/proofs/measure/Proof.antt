@@ -31,7 +31,7 @@ returns-2 c = search measures
 returns-3 : tie.Need-returns-3
 returns-3 c = search measures
 
-pub measure-spec : {M : Type 1} → statement M
-measure-spec =
+pub measure_spec : {M : Type 1} → statement M
+measure_spec =
     tie.close
     (tie.spec returns enum_told size-requires enum-told-2 size-requires-2 returns-2 returns-3)

@@ -18,5 +18,5 @@ same_length c = search orders
 returns : tie.Need-returns
 returns c = search orders
 
-pub reloc-relr-apply-spec : {M : Type 1} → statement M
-reloc-relr-apply-spec = tie.close (tie.spec of-requires apply-requires same_length returns)
+pub reloc_relr_apply_spec : {M : Type 1} → statement M
+reloc_relr_apply_spec = tie.close (tie.spec of-requires apply-requires same_length returns)

@@ -18,5 +18,5 @@ same_length c = search orders
 returns : tie.Need-returns
 returns c = search orders
 
-pub reloc-relr-read-spec : {M : Type 1} → statement M
-reloc-relr-read-spec = tie.close (tie.spec of-requires read-requires same_length returns)
+pub reloc_relr_read_spec : {M : Type 1} → statement M
+reloc_relr_read_spec = tie.close (tie.spec of-requires read-requires same_length returns)

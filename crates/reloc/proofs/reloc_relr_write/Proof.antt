@@ -18,5 +18,5 @@ same_length c = search orders
 returns : tie.Need-returns
 returns c = search orders
 
-pub reloc-relr-write-spec : {M : Type 1} → statement M
-reloc-relr-write-spec = tie.close (tie.spec of-requires write-requires same_length returns)
+pub reloc_relr_write_spec : {M : Type 1} → statement M
+reloc_relr_write_spec = tie.close (tie.spec of-requires write-requires same_length returns)

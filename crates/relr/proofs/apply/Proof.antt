@@ -32,8 +32,8 @@ same_length c = search rules
 returns-2 : tie.Need-returns-2
 returns-2 c = search applies
 
-pub apply-spec : {M : Type 1} → statement M
-apply-spec =
+pub apply_spec : {M : Type 1} → statement M
+apply_spec =
     tie.close
     (tie.spec
     named-requires

@@ -30,8 +30,8 @@ same_length c = search rules
 returns : tie.Need-returns
 returns c = search entries
 
-pub add-entry-spec : {M : Type 1} → statement M
-add-entry-spec =
+pub add_entry_spec : {M : Type 1} → statement M
+add_entry_spec =
     tie.close
     (tie.spec
     load-requires

@@ -52,8 +52,8 @@ same_length c = search alongs
 returns : tie.Need-returns invariant-loop decreases-loop
 returns c = search alongs
 
-pub add-strip-spec : {M : Type 1} → statement M
-add-strip-spec =
+pub add_strip_spec : {M : Type 1} → statement M
+add_strip_spec =
     tie.close
     (tie.spec
     invariant-loop

@@ -36,8 +36,8 @@ add-result-3 c = search ends
 returns-4 : tie.Need-returns-4
 returns-4 c = search ends
 
-pub end-spec : {M : Type 1} → statement M
-end-spec =
+pub end_spec : {M : Type 1} → statement M
+end_spec =
     tie.close
     (tie.spec
     bytes-requires

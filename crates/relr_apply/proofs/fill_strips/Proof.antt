@@ -57,8 +57,8 @@ same_length c = search fillings
 returns : tie.Need-returns invariant-loop decreases-loop
 returns c = search fillings
 
-pub fill-strips-spec : {M : Type 1} → statement M
-fill-strips-spec =
+pub fill_strips_spec : {M : Type 1} → statement M
+fill_strips_spec =
     tie.close
     (tie.spec
     invariant-loop

@@ -35,8 +35,8 @@ same-length-3 c = search rules
 returns-3 : tie.Need-returns-3
 returns-3 c = search rules
 
-pub patch-bitmap-spec : {M : Type 1} → statement M
-patch-bitmap-spec =
+pub patch_bitmap_spec : {M : Type 1} → statement M
+patch_bitmap_spec =
     tie.close
     (tie.spec
     patch-run-requires

@@ -26,7 +26,7 @@ same_length c = search rules
 returns : tie.Need-returns
 returns c = search classes
 
-pub patch-by-spec : {M : Type 1} → statement M
-patch-by-spec =
+pub patch_by_spec : {M : Type 1} → statement M
+patch_by_spec =
     tie.close
     (tie.spec chosen-requires window-requires cast-patch patch-requires same_length returns)

@@ -91,8 +91,8 @@ same-length-4 c = search rules
 returns-4 : tie.Need-returns-4
 returns-4 c = search classes
 
-pub patch-class-spec : {M : Type 1} → statement M
-patch-class-spec =
+pub patch_class_spec : {M : Type 1} → statement M
+patch_class_spec =
     tie.close
     (tie.spec
     slice-aggregate-fill-strips

@@ -49,8 +49,8 @@ same_length c = search patchings
 returns : tie.Need-returns invariant-loop decreases-loop
 returns c = search patchings
 
-pub patch-marks-spec : {M : Type 1} → statement M
-patch-marks-spec =
+pub patch_marks_spec : {M : Type 1} → statement M
+patch_marks_spec =
     tie.close
     (tie.spec
     invariant-loop

@@ -47,8 +47,8 @@ same_length c = search runnings
 returns : tie.Need-returns invariant-loop decreases-loop
 returns c = search runnings
 
-pub patch-run-spec : {M : Type 1} → statement M
-patch-run-spec =
+pub patch_run_spec : {M : Type 1} → statement M
+patch_run_spec =
     tie.close
     (tie.spec
     invariant-loop

@@ -59,8 +59,8 @@ same_length c = search rollings
 returns : tie.Need-returns invariant-loop decreases-loop
 returns c = search rollings
 
-pub patch-window-spec : {M : Type 1} → statement M
-patch-window-spec =
+pub patch_window_spec : {M : Type 1} → statement M
+patch_window_spec =
     tie.close
     (tie.spec
     invariant-loop

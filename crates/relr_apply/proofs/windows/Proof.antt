@@ -17,5 +17,5 @@ add-result c = search fittings
 returns-2 : tie.Need-returns-2
 returns-2 c = search fittings
 
-pub windows-spec : {M : Type 1} → statement M
-windows-spec = tie.close (tie.spec stride-requires returns add-result returns-2)
+pub windows_spec : {M : Type 1} → statement M
+windows_spec = tie.close (tie.spec stride-requires returns add-result returns-2)

@@ -52,8 +52,8 @@ same-length-3 c = search bitmaps
 returns-3 : tie.Need-returns-3
 returns-3 c = search bitmaps
 
-pub fill-bitmap-spec : {M : Type 1} → statement M
-fill-bitmap-spec =
+pub fill_bitmap_spec : {M : Type 1} → statement M
+fill_bitmap_spec =
     tie.close
     (tie.spec
     full-bits-requires

@@ -18,5 +18,5 @@ same_length c = search classes
 returns : tie.Need-returns
 returns c = search classes
 
-pub fill-by-spec : {M : Type 1} → statement M
-fill-by-spec = tie.close (tie.spec chosen-requires fill-requires same_length returns)
+pub fill_by_spec : {M : Type 1} → statement M
+fill_by_spec = tie.close (tie.spec chosen-requires fill-requires same_length returns)

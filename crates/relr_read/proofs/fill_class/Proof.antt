@@ -59,8 +59,8 @@ same-length-4 c = search classes
 returns-4 : tie.Need-returns-4
 returns-4 c = search classes
 
-pub fill-class-spec : {M : Type 1} → statement M
-fill-class-spec =
+pub fill_class_spec : {M : Type 1} → statement M
+fill_class_spec =
     tie.close
     (tie.spec
     enum_told

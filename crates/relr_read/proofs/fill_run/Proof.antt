@@ -53,8 +53,8 @@ same_length c = search runnings
 returns : tie.Need-returns invariant-loop decreases-loop
 returns c = search runnings
 
-pub fill-run-spec : {M : Type 1} → statement M
-fill-run-spec =
+pub fill_run_spec : {M : Type 1} → statement M
+fill_run_spec =
     tie.close
     (tie.spec
     invariant-loop

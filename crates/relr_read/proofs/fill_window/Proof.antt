@@ -62,8 +62,8 @@ same_length c = search spreadings
 returns : tie.Need-returns invariant-loop decreases-loop
 returns c = search spreadings
 
-pub fill-window-spec : {M : Type 1} → statement M
-fill-window-spec =
+pub fill_window_spec : {M : Type 1} → statement M
+fill_window_spec =
     tie.close
     (tie.spec
     invariant-loop

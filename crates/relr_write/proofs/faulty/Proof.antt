@@ -21,5 +21,5 @@ returns-3 c = search faults
 returns-4 : tie.Need-returns-4
 returns-4 c = search faults
 
-pub faulty-spec : {M : Type 1} → statement M
-faulty-spec = tie.close (tie.spec returns last-requires returns-2 returns-3 returns-4)
+pub faulty_spec : {M : Type 1} → statement M
+faulty_spec = tie.close (tie.spec returns last-requires returns-2 returns-3 returns-4)

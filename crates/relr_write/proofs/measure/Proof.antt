@@ -33,8 +33,8 @@ returns-3 : tie.Need-returns-3
 unfolding list_limit
 returns-3 c = search measures
 
-pub measure-spec : {M : Type 1} → statement M
-measure-spec =
+pub measure_spec : {M : Type 1} → statement M
+measure_spec =
     tie.close
     (tie.spec
     returns

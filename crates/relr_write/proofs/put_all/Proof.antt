@@ -59,8 +59,8 @@ same-length-4 c = search names
 returns-4 : tie.Need-returns-4
 returns-4 c = search names
 
-pub put-all-spec : {M : Type 1} → statement M
-put-all-spec =
+pub put_all_spec : {M : Type 1} → statement M
+put_all_spec =
     tie.close
     (tie.spec
     enum_told

@@ -19,5 +19,5 @@ same_length c = search rules
 returns : tie.Need-returns
 returns c = search names
 
-pub put-by-spec : {M : Type 1} → statement M
-put-by-spec = tie.close (tie.spec chosen-requires put-requires same_length returns)
+pub put_by_spec : {M : Type 1} → statement M
+put_by_spec = tie.close (tie.spec chosen-requires put-requires same_length returns)

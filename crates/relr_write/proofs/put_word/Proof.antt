@@ -25,6 +25,6 @@ same_length c = search rules
 returns : tie.Need-returns
 returns c = search stores
 
-pub put-word-spec : {M : Type 1} → statement M
-put-word-spec =
+pub put_word_spec : {M : Type 1} → statement M
+put_word_spec =
     tie.close (tie.spec store-requires bytes-requires cast-result add-result same_length returns)

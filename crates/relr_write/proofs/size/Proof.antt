@@ -98,8 +98,8 @@ mul-t24 c = search sizings
 returns-2 : tie.Need-returns-2 invariant-loop decreases-loop
 returns-2 c = search sizings
 
-pub size-spec : {M : Type 1} → statement M
-size-spec =
+pub size_spec : {M : Type 1} → statement M
+size_spec =
     tie.close
     (tie.spec
     invariant-loop

@@ -15,5 +15,5 @@ size-requires c κs = search names
 returns : tie.Need-returns
 returns c = search names
 
-pub size-by-spec : {M : Type 1} → statement M
-size-by-spec = tie.close (tie.spec chosen-size-requires size-requires returns)
+pub size_by_spec : {M : Type 1} → statement M
+size_by_spec = tie.close (tie.spec chosen-size-requires size-requires returns)

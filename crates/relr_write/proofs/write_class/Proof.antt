@@ -43,8 +43,8 @@ same_length c = search rules
 returns-3 : tie.Need-returns-3
 returns-3 c = search writes
 
-pub write-class-spec : {M : Type 1} → statement M
-write-class-spec =
+pub write_class_spec : {M : Type 1} → statement M
+write_class_spec =
     tie.close
     (tie.spec
     measure-requires

@@ -24,6 +24,6 @@ returns c = search words
 returns-2 : tie.Need-returns-2
 returns-2 c = search words
 
-pub load-low-spec : {M : Type 1} → statement M
-load-low-spec =
+pub load_low_spec : {M : Type 1} → statement M
+load_low_spec =
     tie.close (tie.spec enum_told load4-requires enum-told-2 load8-requires returns returns-2)

@@ -30,8 +30,8 @@ same-length-2 c = search words
 returns-2 : tie.Need-returns-2
 returns-2 c = search words
 
-pub store-low-spec : {M : Type 1} → statement M
-store-low-spec =
+pub store_low_spec : {M : Type 1} → statement M
+store_low_spec =
     tie.close
     (tie.spec
     enum_told

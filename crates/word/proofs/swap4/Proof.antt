@@ -25,7 +25,7 @@ add-result-3 c = search words
 returns : tie.Need-returns
 returns c = search words
 
-pub swap4-spec : {M : Type 1} → statement M
-swap4-spec =
+pub swap4_spec : {M : Type 1} → statement M
+swap4_spec =
     tie.close
     (tie.spec mul-result add-result mul-result-2 add-result-2 mul-result-3 add-result-3 returns)

@@ -20,5 +20,5 @@ add-result c = search words
 returns : tie.Need-returns
 returns c = search words
 
-pub swap8-spec : {M : Type 1} → statement M
-swap8-spec = tie.close (tie.spec swap4-requires swap4-requires-2 mul-result add-result returns)
+pub swap8_spec : {M : Type 1} → statement M
+swap8_spec = tie.close (tie.spec swap4-requires swap4-requires-2 mul-result add-result returns)

@@ -19,5 +19,5 @@ power-requires c κs = search rules
 returns : tie.Need-returns
 returns c = search tests
 
-pub fits-signed-spec : {M : Type 1} → statement M
-fits-signed-spec = tie.close (tie.spec magnitude-requires sub-power power-requires returns)
+pub fits_signed_spec : {M : Type 1} → statement M
+fits_signed_spec = tie.close (tie.spec magnitude-requires sub-power power-requires returns)

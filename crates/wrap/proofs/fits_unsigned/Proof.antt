@@ -15,5 +15,5 @@ returns c = search tests
 returns-2 : tie.Need-returns-2
 returns-2 c = search tests
 
-pub fits-unsigned-spec : {M : Type 1} → statement M
-fits-unsigned-spec = tie.close (tie.spec power-requires returns returns-2)
+pub fits_unsigned_spec : {M : Type 1} → statement M
+fits_unsigned_spec = tie.close (tie.spec power-requires returns returns-2)

@@ -5,8 +5,8 @@ use Rattle.answer.proofs.Refusal.number.Tie as tie
 use Rattle.answer.proofs.Refusal.number.Reads as reads
 use Rattle.answer.proofs.Refusal.number.Lts as lts
 
-pub number-spec : {M : Type 1} → statement M
-number-spec =
+pub number_spec : {M : Type 1} → statement M
+number_spec =
     tie.close
     (tie.spec
     (λ c. search rules)

@@ -24,7 +24,7 @@ returns c = search pairs
 returns-2 : tie.Need-returns-2
 returns-2 c = search pairs
 
-pub read-u32-spec : {M : Type 1} → statement M
-read-u32-spec =
+pub read_u32_spec : {M : Type 1} → statement M
+read_u32_spec =
     tie.close
     (tie.spec read-unsigned-requires enum-known-v cast-t9 enum-known-why returns returns-2)

@@ -19,6 +19,6 @@ same_length c = search rules
 returns : tie.Need-returns
 returns c = search pairs
 
-pub write-pair-spec : {M : Type 1} → statement M
-write-pair-spec =
+pub write_pair_spec : {M : Type 1} → statement M
+write_pair_spec =
     tie.close (tie.spec write-unsigned-requires write-signed-requires same_length returns)

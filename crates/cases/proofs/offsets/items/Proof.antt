@@ -37,8 +37,8 @@ loop-again c = search rules
 returns : tie.Need-returns invariant-loop decreases-loop
 returns c = search rules
 
-pub items-spec : {M : Type 1} → statement M
-items-spec =
+pub items_spec : {M : Type 1} → statement M
+items_spec =
     tie.close
     (tie.spec
     invariant-loop

@@ -16,5 +16,5 @@ returns c = rw c.before.self.given.1
 returns-2 : tie.Need-returns-2
 returns-2 c = rw c.before.self2.given.1
 
-pub cause-spec : {M : Type 1} → statement M
-cause-spec = tie.close (tie.spec enum-known-self enum-known-self-2 returns returns-2)
+pub cause_spec : {M : Type 1} → statement M
+cause_spec = tie.close (tie.spec enum-known-self enum-known-self-2 returns returns-2)

@@ -25,5 +25,5 @@ loop-again c = search counts
 returns : tie.Need-returns invariant-loop decreases-loop
 returns c = search counts
 
-pub digits-spec : {M : Type 1} → statement M
-digits-spec = tie.close (tie.spec invariant-loop decreases-loop loop-holds add-n loop-less loop-again returns)
+pub digits_spec : {M : Type 1} → statement M
+digits_spec = tie.close (tie.spec invariant-loop decreases-loop loop-holds add-n loop-less loop-again returns)

@@ -56,8 +56,8 @@ same_length c = search writings
 returns : tie.Need-returns invariant-loop decreases-loop
 returns c = search writings
 
-pub put-number-spec : {M : Type 1} → statement M
-put-number-spec =
+pub put_number_spec : {M : Type 1} → statement M
+put_number_spec =
     tie.close
     (tie.spec
     invariant-loop

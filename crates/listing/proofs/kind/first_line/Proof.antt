@@ -63,8 +63,8 @@ returns-6 c = search lines
 returns-7 : tie.Need-returns-7
 returns-7 c = search lines
 
-pub first-line-spec : {M : Type 1} → statement M
-first-line-spec =
+pub first_line_spec : {M : Type 1} → statement M
+first_line_spec =
     tie.close
     (tie.spec
     slice-aggregate-starts-with

@@ -28,8 +28,8 @@ same-length-2 c = search rules
 returns-2 : tie.Need-returns-2
 returns-2 c = search fields
 
-pub put-addend-spec : {M : Type 1} → statement M
-put-addend-spec =
+pub put_addend_spec : {M : Type 1} → statement M
+put_addend_spec =
     tie.close
     (tie.spec
     put-byte-requires

@@ -22,6 +22,6 @@ same_length c = search rules
 returns : tie.Need-returns
 returns c = search lists
 
-pub put-list-spec : {M : Type 1} → statement M
-put-list-spec =
+pub put_list_spec : {M : Type 1} → statement M
+put_list_spec =
     tie.close (tie.spec slice-aggregate-put put-requires put-rows-requires same_length returns)

@@ -41,8 +41,8 @@ returns c =
     row_put _ _ _ _ _ _ b.put_byte.ensures a.put_addend.ensures t.put-types.ensures s.put-start.ensures
     s.before.before.has-addend.ensures s.before.before.before.has-type.ensures s.before.before.before.before.before.ranges.addend
 
-pub put-row-spec : {M : Type 1} → statement M
-put-row-spec =
+pub put_row_spec : {M : Type 1} → statement M
+put_row_spec =
     tie.close
     (tie.spec
     has-type-requires

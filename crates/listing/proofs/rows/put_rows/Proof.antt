@@ -57,8 +57,8 @@ same_length c = search rowings
 returns : tie.Need-returns invariant-loop decreases-loop
 returns c = search rowings
 
-pub put-rows-spec : {M : Type 1} → statement M
-put-rows-spec =
+pub put_rows_spec : {M : Type 1} → statement M
+put_rows_spec =
     tie.close
     (tie.spec
     invariant-loop

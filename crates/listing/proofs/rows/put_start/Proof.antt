@@ -19,5 +19,5 @@ same_length c = search rules
 returns : tie.Need-returns
 returns c = search starts
 
-pub put-start-spec : {M : Type 1} → statement M
-put-start-spec = tie.close (tie.spec put-number-requires put-field-requires same_length returns)
+pub put_start_spec : {M : Type 1} → statement M
+put_start_spec = tie.close (tie.spec put-number-requires put-field-requires same_length returns)

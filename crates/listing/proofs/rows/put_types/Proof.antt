@@ -18,5 +18,5 @@ same_length c = search rules
 returns : tie.Need-returns
 returns c = search types
 
-pub put-types-spec : {M : Type 1} → statement M
-put-types-spec = tie.close (tie.spec put-field-requires put-field-requires-2 same_length returns)
+pub put_types_spec : {M : Type 1} → statement M
+put_types_spec = tie.close (tie.spec put-field-requires put-field-requires-2 same_length returns)

@@ -37,8 +37,8 @@ returns c =
     let a = b.before.before.before.before in
     refusal_put _ _ e.put-byte2.ensures d.put-number2.ensures b.put_byte.ensures a.put-number.ensures a.before.before.before.before.put.ensures
 
-pub put-refusal-spec : {M : Type 1} → statement M
-put-refusal-spec =
+pub put_refusal_spec : {M : Type 1} → statement M
+put_refusal_spec =
     tie.close
     (tie.spec
     slice-aggregate-put

@@ -15,5 +15,5 @@ of-requires c κs = search locations
 returns : tie.Need-returns
 returns c = search locations
 
-pub chosen-spec : {M : Type 1} → statement M
-chosen-spec = tie.close (tie.spec chosen-size-requires of-requires returns)
+pub chosen_spec : {M : Type 1} → statement M
+chosen_spec = tie.close (tie.spec chosen-size-requires of-requires returns)

@@ -21,5 +21,5 @@ returns c = search locations
 returns-2 : tie.Need-returns-2
 returns-2 c = search locations
 
-pub crowded-spec : {M : Type 1} → statement M
-crowded-spec = tie.close (tie.spec largest-requires window-requires sub-result returns returns-2)
+pub crowded_spec : {M : Type 1} → statement M
+crowded_spec = tie.close (tie.spec largest-requires window-requires sub-result returns returns-2)

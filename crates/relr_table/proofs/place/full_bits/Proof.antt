@@ -11,5 +11,5 @@ largest-requires c κs = search opening
 returns : tie.Need-returns
 returns c = search opening
 
-pub full-bits-spec : {M : Type 1} → statement M
-full-bits-spec = tie.close (tie.spec largest-requires returns)
+pub full_bits_spec : {M : Type 1} → statement M
+full_bits_spec = tie.close (tie.spec largest-requires returns)

@@ -24,6 +24,6 @@ returns-2 c = search fences
 returns-3 : tie.Need-returns-3
 returns-3 c = search fences
 
-pub fence-spec : {M : Type 1} → statement M
-fence-spec =
+pub fence_spec : {M : Type 1} → statement M
+fence_spec =
     tie.close (tie.spec stride-requires last-requires returns sub-result returns-2 returns-3)

@@ -10,5 +10,5 @@ cast-result c = search tallies
 returns : tie.Need-returns
 returns c = search tallies
 
-pub marks-spec : {M : Type 1} → statement M
-marks-spec = tie.close (tie.spec cast-result returns)
+pub marks_spec : {M : Type 1} → statement M
+marks_spec = tie.close (tie.spec cast-result returns)

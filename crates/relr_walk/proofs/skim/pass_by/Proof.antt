@@ -15,5 +15,5 @@ pass-requires c κs = search classes
 returns : tie.Need-returns
 returns c = search classes
 
-pub pass-by-spec : {M : Type 1} → statement M
-pass-by-spec = tie.close (tie.spec chosen-requires pass-requires returns)
+pub pass_by_spec : {M : Type 1} → statement M
+pass_by_spec = tie.close (tie.spec chosen-requires pass-requires returns)

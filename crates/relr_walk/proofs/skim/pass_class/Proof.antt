@@ -47,8 +47,8 @@ returns-3 c = search classes
 returns-4 : tie.Need-returns-4
 returns-4 c = search classes
 
-pub pass-class-spec : {M : Type 1} → statement M
-pass-class-spec =
+pub pass_class_spec : {M : Type 1} → statement M
+pass_class_spec =
     tie.close
     (tie.spec
     enum_told

@@ -28,7 +28,7 @@ step-requires c κs = search nears
 returns-2 : tie.Need-returns-2
 returns-2 c = search nears
 
-pub step-near-spec : {M : Type 1} → statement M
-step-near-spec =
+pub step_near_spec : {M : Type 1} → statement M
+step_near_spec =
     tie.close
     (tie.spec within-requires bytes-requires cast-t11 add-t12 returns step-requires returns-2)

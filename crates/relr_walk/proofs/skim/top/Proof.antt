@@ -24,5 +24,5 @@ returns c = search tops
 returns-2 : tie.Need-returns-2
 returns-2 c = search tops
 
-pub top-spec : {M : Type 1} → statement M
-top-spec = tie.close (tie.spec last-requires bytes-requires cast-most sub-most returns returns-2)
+pub top_spec : {M : Type 1} → statement M
+top_spec = tie.close (tie.spec last-requires bytes-requires cast-most sub-most returns returns-2)

@@ -22,5 +22,5 @@ returns c = search locating
 returns-2 : tie.Need-returns-2
 returns-2 c = search locating
 
-pub forward-spec : {M : Type 1} → statement M
-forward-spec = tie.close (tie.spec last-requires stride-requires past-requires returns returns-2)
+pub forward_spec : {M : Type 1} → statement M
+forward_spec = tie.close (tie.spec last-requires stride-requires past-requires returns returns-2)

@@ -26,7 +26,7 @@ returns c = search locating
 returns-2 : tie.Need-returns-2
 returns-2 c = search locating
 
-pub locate-spec : {M : Type 1} → statement M
-locate-spec =
+pub locate_spec : {M : Type 1} → statement M
+locate_spec =
     tie.close
     (tie.spec wrapping-sub-u64-requires in-words-requires window-requires cast-if1 returns returns-2)

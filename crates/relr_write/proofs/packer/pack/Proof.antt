@@ -52,8 +52,8 @@ returns-2 c = search packing
 returns-3 : tie.Need-returns-3
 returns-3 c = search packing
 
-pub pack-spec : {M : Type 1} → statement M
-pack-spec =
+pub pack_spec : {M : Type 1} → statement M
+pack_spec =
     tie.close
     (tie.spec
     locate-requires

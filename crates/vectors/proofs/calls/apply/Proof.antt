@@ -38,8 +38,8 @@ line-requires c κs = search rules
 returns : tie.Need-returns
 returns c = search rules
 
-pub apply-spec : {M : Type 1} → statement M
-apply-spec =
+pub apply_spec : {M : Type 1} → statement M
+apply_spec =
     tie.close
     (tie.spec
     u32le-requires

@@ -38,8 +38,8 @@ same_length c = search rules
 returns : tie.Need-returns invariant-loop decreases-loop
 returns c = search rules
 
-pub column32-spec : {M : Type 1} → statement M
-column32-spec =
+pub column32_spec : {M : Type 1} → statement M
+column32_spec =
     tie.close
     (tie.spec
     invariant-loop

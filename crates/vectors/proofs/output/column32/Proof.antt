@@ -39,8 +39,8 @@ loop-again c = search rules
 returns : tie.Need-returns invariant-loop decreases-loop
 returns c = search rules
 
-pub column32-spec : {M : Type 1} → statement M
-column32-spec =
+pub column32_spec : {M : Type 1} → statement M
+column32_spec =
     tie.close
     (tie.spec
     invariant-loop

@@ -35,8 +35,8 @@ loop-again c = search rules
 returns : tie.Need-returns invariant-loop decreases-loop
 returns c = search rules
 
-pub column64-spec : {M : Type 1} → statement M
-column64-spec =
+pub column64_spec : {M : Type 1} → statement M
+column64_spec =
     tie.close
     (tie.spec
     invariant-loop

@@ -39,8 +39,8 @@ loop-again c = search rules
 returns : tie.Need-returns invariant-loop decreases-loop
 returns c = search rules
 
-pub signed-column-spec : {M : Type 1} → statement M
-signed-column-spec =
+pub signed_column_spec : {M : Type 1} → statement M
+signed_column_spec =
     tie.close
     (tie.spec
     invariant-loop

@@ -33,8 +33,8 @@ add-result-2 c = search words
 returns : tie.Need-returns
 returns c = search words
 
-pub in-words-spec : {M : Type 1} → statement M
-in-words-spec =
+pub in_words_spec : {M : Type 1} → statement M
+in_words_spec =
     tie.close
     (tie.spec
     bytes-requires

@@ -21,5 +21,5 @@ shr-result c = search sizes
 returns : tie.Need-returns
 returns c = search sizes
 
-pub largest-spec : {M : Type 1} → statement M
-largest-spec = tie.close (tie.spec bits-requires sub-result cast-result shr-result returns)
+pub largest_spec : {M : Type 1} → statement M
+largest_spec = tie.close (tie.spec bits-requires sub-result cast-result shr-result returns)

@@ -25,7 +25,7 @@ sub-result-2 c = search sizes
 returns : tie.Need-returns
 returns c = search sizes
 
-pub last-spec : {M : Type 1} → statement M
-last-spec =
+pub last_spec : {M : Type 1} → statement M
+last_spec =
     tie.close
     (tie.spec largest-requires bytes-requires cast-result sub-result sub-result-2 returns)

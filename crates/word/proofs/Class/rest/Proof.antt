@@ -18,5 +18,5 @@ rem-result c = search sizes
 returns : tie.Need-returns
 returns c = search sizes
 
-pub rest-spec : {M : Type 1} → statement M
-rest-spec = tie.close (tie.spec bytes-requires cast-result rem-result returns)
+pub rest_spec : {M : Type 1} → statement M
+rest_spec = tie.close (tie.spec bytes-requires cast-result rem-result returns)

@@ -22,5 +22,5 @@ cast-result c = search sizes
 returns : tie.Need-returns
 returns c = search sizes
 
-pub stride-spec : {M : Type 1} → statement M
-stride-spec = tie.close (tie.spec window-requires bytes-requires mul-result cast-result returns)
+pub stride_spec : {M : Type 1} → statement M
+stride_spec = tie.close (tie.spec window-requires bytes-requires mul-result cast-result returns)
