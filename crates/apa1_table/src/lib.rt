@@ -1,1 +1,2 @@
 // APA1 tables: their definitions and their laws.
+#![tactic(auto)]

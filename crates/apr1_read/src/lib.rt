@@ -15,14 +15,14 @@ use apr1_table::LAST;
 use leb128::Unsigned;
 
 // A pair: C and D, the offset behind it, and the place past it.
-#[derive(Drop)]
+#[derive(Clone, Copy)]
 pub enum Entry {
     Pair(u64, u64, u64, usize),
     Refused(Refusal, usize),
 }
 
 // N, A, and the place of the first pair.
-#[derive(Drop)]
+#[derive(Clone, Copy)]
 pub enum Head {
     Table(u64, u64, usize),
     Refused(Refusal, usize),

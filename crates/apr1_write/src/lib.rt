@@ -11,7 +11,7 @@ use answer::Refusal;
 use apr1_table::LAST;
 
 // The pairs and the bytes of a table, or the first bad offset.
-#[derive(Drop)]
+#[derive(Clone, Copy)]
 pub enum Sized {
     Table(u64, u64),
     Refused(Refusal, u64),

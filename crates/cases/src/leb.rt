@@ -9,7 +9,7 @@ use answer::Refusal;
 use leb128::{Signed, Unsigned};
 
 // A number of 32 bits, as a u32.
-#[derive(Drop)]
+#[derive(Clone, Copy)]
 pub enum Word {
     Value(u32, usize),
     Refused(Refusal, usize),

@@ -2,7 +2,7 @@
 ghost use Rattle.std.specs.Prelude.{◌≡◌, length};
 ghost use Rattle.listing.specs.Text.{line_of, has_type, has_addend, first_line};
 
-#[derive(Drop)]
+#[derive(Clone, Copy)]
 pub enum Kind {
     Relr32,
     Relr64,
@@ -13,7 +13,7 @@ pub enum Kind {
 }
 
 // What the first line says.
-#[derive(Drop)]
+#[derive(Clone, Copy)]
 pub enum Line {
     Names(Kind),
     Unknown,

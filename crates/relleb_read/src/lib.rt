@@ -16,7 +16,7 @@ use answer::{Found, INPUT_LIMIT, Refusal};
 use leb128::{Ended, Signed, Unsigned};
 
 // A record with the place past it.
-#[derive(Drop)]
+#[derive(Clone, Copy)]
 pub enum Entry {
     Record(u64, u32, u32, i64, usize),
     Refused(Refusal, usize),

@@ -16,7 +16,7 @@ use word::Size;
 
 // A record as its numbers: the offset's difference, the type's, the symbol field, and the addend's difference, which is written behind a
 // negative symbol field.
-#[derive(Drop)]
+#[derive(Clone, Copy)]
 pub enum Fields {
     Numbers(u64, i64, i64, i64),
     Refused(Refusal),

@@ -52,7 +52,7 @@ fn marks(set: u64) -> u64
 }
 
 // A word that is passed, with the next one's *where*: an address, or a bitmap with how many offsets it stands for; or one that is not.
-#[derive(Drop)]
+#[derive(Clone, Copy)]
 pub enum Stepped {
     One(u64),
     Many(u64, u64),
@@ -90,7 +90,7 @@ fn step_near(k: Class, low: u64, top: u64, clear: u64, place: u64, x: u64) -> St
 }
 
 // How far a walk has come: the next word's byte and its *where*, and how many offsets were passed.
-#[derive(Drop)]
+#[derive(Clone, Copy)]
 pub struct Passed {
     pub at: usize,
     pub place: u64,

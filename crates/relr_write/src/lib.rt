@@ -19,7 +19,7 @@ use word::{ByteOrder, Class, Size};
 mod packer;
 
 // What is wrong with an offset that may be no less than `least`.
-#[derive(Drop)]
+#[derive(Clone, Copy)]
 pub enum Fault {
     Clean,
     Bad(Refusal),
@@ -121,7 +121,7 @@ fn put_word(k: Class, table: &mut [u8], at: usize, w: u64) -> usize
 }
 
 // What the second pass leaves: the place after the words that it put, and the bits of a bitmap that is pending there.
-#[derive(Drop)]
+#[derive(Clone, Copy)]
 pub struct Rest {
     pub at: usize,
     pub bits: u64,

@@ -8,14 +8,14 @@ use relr_table::place;
 use word::Class;
 
 // Where the next bitmap starts, and the bits of the one that is pending there; with no bits none is.
-#[derive(Drop)]
+#[derive(Clone, Copy)]
 pub struct Pending {
     pub place: u64,
     pub bits: u64,
 }
 
 // The location of an offset in a bitmap, or none.
-#[derive(Drop)]
+#[derive(Clone, Copy)]
 pub enum Location {
     On(u64),
     Off,
@@ -23,7 +23,7 @@ pub enum Location {
 
 // What the next offset does: it joins the bitmap that is pending or would start next, has the pending bitmap written and waits for the
 // next one, or is written itself.
-#[derive(Drop)]
+#[derive(Clone, Copy)]
 pub enum Packed {
     Joined(Pending),
     Flushed(u64, Pending),

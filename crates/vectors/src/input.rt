@@ -10,7 +10,7 @@ const BIG: u8 = 1;
 const STRICT: u8 = 1;
 
 // What a case sets; `reference/FORMAT.md` has the values. What its call does not take is 0.
-#[derive(Drop)]
+#[derive(Clone, Copy)]
 pub struct Settings {
     pub class: u32,
     pub order: ByteOrder,
@@ -20,7 +20,7 @@ pub struct Settings {
 }
 
 // How many entries each column of a case has.
-#[derive(Drop)]
+#[derive(Clone, Copy)]
 pub struct Lengths {
     pub offsets: u32,
     pub types: u32,

@@ -1,0 +1,9 @@
+use Rattle.word.proofs.ClassNeeds.{sizes}
+use Rattle.std.proofs.Common.{rules}
+use Rattle.word.proofs.Class.rest.Goals as goal
+
+pub nonzero_rem-result : goal.nonzero_rem-result
+nonzero_rem-result c = search sizes
+
+pub returns : goal.returns
+returns c = search sizes

@@ -1,0 +1,6 @@
+use Rattle.word.proofs.ClassNeeds.{sizes}
+use Rattle.std.proofs.Common.{rules}
+use Rattle.word.proofs.Size.bits.Goals as goal
+
+pub overflow_mul-result : goal.overflow_mul-result
+overflow_mul-result c = search sizes
