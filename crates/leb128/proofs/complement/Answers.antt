@@ -8,14 +8,17 @@ use Rattle.leb128.proofs.Reading.{shl_is}
 use borrow.Author.Rules.{rules}
 use Rattle.leb128.proofs.complement.Goals as goal
 
-power : (c : tie.Start) → 1 * 2 ^ (7 * c.args.k) % 2 ^ 64 ≡ 2 ^ (7 * c.args.k)
-power c = shl_is {d = 1} 1 (7 * c.args.k) (lit< tt) (search rules) ∙ one-mul _
-
 pub overflow_sub-result : goal.overflow_sub-result
-overflow_sub-result c = rw (power c) (pow_pos _)
+overflow_sub-result c =
+    let power : 1 * 2 ^ (7 * c.args.k) % 2 ^ 64 ≡ 2 ^ (7 * c.args.k) = shl_is {d = 1} 1 (7 * c.args.k) (lit< tt) (search rules) ∙ one-mul _ in
+    rw power (pow_pos _)
 
 pub overflow_sub-result-2 : goal.overflow_sub-result-2
-overflow_sub-result-2 c = rw (power c) (omega arith)
+overflow_sub-result-2 c =
+    let power : 1 * 2 ^ (7 * c.args.k) % 2 ^ 64 ≡ 2 ^ (7 * c.args.k) = shl_is {d = 1} 1 (7 * c.args.k) (lit< tt) (search rules) ∙ one-mul _ in
+    rw power (omega arith)
 
 pub returns : goal.returns
-returns c = rw (power c)
+returns c =
+    let power : 1 * 2 ^ (7 * c.args.k) % 2 ^ 64 ≡ 2 ^ (7 * c.args.k) = shl_is {d = 1} 1 (7 * c.args.k) (lit< tt) (search rules) ∙ one-mul _ in
+    rw power

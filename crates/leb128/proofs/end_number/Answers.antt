@@ -5,10 +5,10 @@ use borrow.Author.Rules.{rules}
 use Rattle.leb128.proofs.end_number.Goals as goal
 
 pub returns-in-Positive : goal.returns-in-Positive
-returns-in-Positive c = λ h. (let e = subst (EndsSigned _ _ _ _) c.past-1.given.1 c.end_signed.ensures in (e.0, e.1))
+returns-in-Positive c = λ h. (let e = subst (EndsSigned _ _ _ _) c.in-Positive.is c.end_signed.ensures in (e.0, e.1))
 
 pub returns-in-Negative : goal.returns-in-Negative
-returns-in-Negative c = λ h. (let e = subst (EndsSigned _ _ _ _) c.past-in-Negative-1.given.1 c.end_signed.ensures in (e.0, e.1))
+returns-in-Negative c = λ h. (let e = subst (EndsSigned _ _ _ _) c.in-Negative.is c.end_signed.ensures in (e.0, e.1))
 
 pub returns-in-Unsaid : goal.returns-in-Unsaid
 returns-in-Unsaid c = λ h. absurd (omega arith)

@@ -6,13 +6,10 @@ pub plain_signed-requires : goal.plain_signed-requires
 plain_signed-requires c = (search answers, search rules, search answers)
 
 pub overflow_add-past-then-plain_signed : goal.overflow_add-past-then-plain_signed
-overflow_add-past-then-plain_signed c = (let run = c.before in
-    run_next run.before.before.before.before.args.strict _ _ _ run.before.before.scan.ensures (search rules) run.low.given.1 (search rules))
+overflow_add-past-then-plain_signed c = (run_next c.args.strict _ _ _ c.scan.ensures (search rules) c.in-Run.is (search rules))
 
 pub returns-then-b-lt64 : goal.returns-then-b-lt64
-returns-then-b-lt64 c = (let plain = c.before in let run = plain.before.before.before in
-    plain_plus _ _ _ _ run.before.before.scan.ensures (search rules) run.low.given.1 plain.before.plain-signed.ensures plain.if1.true c.if-b-lt64.true)
+returns-then-b-lt64 c = (plain_plus _ _ _ _ c.scan.ensures (search rules) c.in-Run.is c.plain_signed.ensures c.if-plain_signed.true c.if-b-lt64.true)
 
 pub returns-then-plain_signed : goal.returns-then-plain_signed
-returns-then-plain_signed c = (let plain = c.before in let run = plain.before.before.before in
-    plain_minus _ _ _ _ run.before.before.scan.ensures (search rules) run.low.given.1 plain.before.plain-signed.ensures plain.if1.true c.if-b-lt64.false)
+returns-then-plain_signed c = (plain_minus _ _ _ _ c.scan.ensures (search rules) c.in-Run.is c.plain_signed.ensures c.if-plain_signed.true c.if-b-lt64.false)

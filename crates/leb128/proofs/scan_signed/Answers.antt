@@ -33,7 +33,5 @@ returns-then-padded_signed c = search answers
 
 pub returns-else-padded_signed : goal.returns-else-padded_signed
 returns-else-padded_signed c =
-    let m = c.before in
-    let n = m.before.before.before.before in
-    rw (to_z-of_z {w = w64} {z = m.v.given.0.0} (search rules))
-    (fits_signed _ _ _ _ n.before.before.scan.ensures (search rules) n.low.given.1 m.before.before.whole-signed.ensures m.v.given.1 c.padded_signed.ensures c.if-padded_signed.false)
+    rw (to_z-of_z {w = w64} {z = c.in-Fits.v} (search rules))
+    (fits_signed _ _ _ _ c.scan.ensures (search rules) c.in-Run.is c.whole_signed.ensures c.in-Fits.is c.padded_signed.ensures c.if-padded_signed.false)

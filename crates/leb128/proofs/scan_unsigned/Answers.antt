@@ -31,6 +31,4 @@ returns-then-padded_unsigned c = search answers
 
 pub returns-else-padded_unsigned : goal.returns-else-padded_unsigned
 returns-else-padded_unsigned c =
-    let m = c.before in
-    let n = m.before.before.before.before in
-    fits_unsigned _ _ _ _ n.before.before.scan.ensures (search rules) n.low.given.1 m.before.before.whole.ensures m.v.given.1 c.padded_unsigned.ensures c.if-padded_unsigned.false
+    fits_unsigned _ _ _ _ c.scan.ensures (search rules) c.in-Run.is c.whole.ensures c.in-Fits.is c.padded_unsigned.ensures c.if-padded_unsigned.false

@@ -7,22 +7,21 @@ use lib.Pow.{pow_mono}
 use Rattle.leb128.proofs.Reading.{shl_is, under, over}
 use Rattle.leb128.proofs.whole.Goals as goal
 
-is_below : (c : tie.Then1) → c.before.before.args.d < 2 ^ (c.before.before.args.bits - 7 * c.before.before.args.k)
-is_below c = ltb-true _ _ (sym c.before.below.ensures ∙ c.if1.true)
-
 pub overflow_add-result : goal.overflow_add-result
 overflow_add-result c =
+    let is_below : c.args.d < 2 ^ (c.args.bits - 7 * c.args.k) = ltb-true _ _ (sym c.below.ensures ∙ c.if-below.true) in
     let a = c.args in
     let p = c.requires in
-    let h = is_below c in
+    let h = is_below in
     rw (shl_is (a.bits - 7 * a.k) (7 * a.k) h (search rules))
     (record { fits = lt_of_lt_of_le (under a.low a.d (7 * a.k) a.bits p.low_lt p.room h) (pow_mono p.word) })
 
 pub returns-then-below : goal.returns-then-below
 returns-then-below c =
+    let is_below : c.args.d < 2 ^ (c.args.bits - 7 * c.args.k) = ltb-true _ _ (sym c.below.ensures ∙ c.if-below.true) in
     let a = c.args in
     let p = c.requires in
-    let h = is_below c in
+    let h = is_below in
     (rw (shl_is (a.bits - 7 * a.k) (7 * a.k) h (search rules)), under a.low a.d (7 * a.k) a.bits p.low_lt p.room h)
 
 pub returns : goal.returns

@@ -12,40 +12,36 @@ use Rattle.leb128.proofs.whole_signed.Goals as goal
 
 pub plus-requires : goal.plus-requires
 plus-requires c =
-    let h = subst (Held _ _) c.v-1.given.1 c.whole.ensures in
+    let h = subst (Held _ _) c.in-Fits.is c.whole.ensures in
     let l : c.args.bits ≤ 63 = omega arith in
     omega (arith, h, pow_mono l)
 
 pub minus-requires : goal.minus-requires
 minus-requires c =
-    let h = subst (Held _ _) c.v-in-Fits-whole-2-1.given.1 c.whole-else-d-lt64.ensures in
+    let h = subst (Held _ _) c.in-Fits-whole.is c.whole-else-d-lt64.ensures in
     let l : c.args.bits ≤ 63 = omega arith in
     omega (arith, h, pow_mono l)
 
 pub returns-in-Fits : goal.returns-in-Fits
 returns-in-Fits c =
-    let h = subst (Held _ _) c.v-1.given.1 c.whole.ensures in
-    let b = c.before in
-    rw (signed_pos _ _ _ b.before.requires.0.low_lt b.if1.true, to_z-of_z {w = w64} (record { sfits = c.plus.type-inv }))
+    let h = subst (Held _ _) c.in-Fits.is c.whole.ensures in
+    rw (signed_pos _ _ _ c.requires.0.low_lt c.if-d-lt64.true, to_z-of_z {w = w64} (record { sfits = c.plus.type_inv }))
     (c.plus.ensures ∙ ap pos h.0, h.1)
 
 pub returns-in-Over : goal.returns-in-Over
 returns-in-Over c =
-    let h = subst (Held _ _) c.enum_told-1.given.1 c.whole.ensures in
-    let b = c.before in
-    rw (signed_pos _ _ _ b.before.requires.0.low_lt b.if1.true) h
+    let h = subst (Held _ _) c.in-Over.is c.whole.ensures in
+    rw (signed_pos _ _ _ c.requires.0.low_lt c.if-d-lt64.true) h
 
 pub returns-in-Fits-whole : goal.returns-in-Fits-whole
 returns-in-Fits-whole c =
-    let h = subst (Held _ _) c.v-in-Fits-whole-2-1.given.1 c.whole-else-d-lt64.ensures in
-    let b = c.before in
+    let h = subst (Held _ _) c.in-Fits-whole.is c.whole-else-d-lt64.ensures in
     let e = c.complement.ensures in
-    rw (signed_neg _ _ _ b.before.requires.0.low_lt b.if1.false b.before.requires.0.digit, to_z-of_z {w = w64} (record { sfits = c.minus.type-inv }), ← e)
+    rw (signed_neg _ _ _ c.requires.0.low_lt c.if-d-lt64.false c.requires.0.digit, to_z-of_z {w = w64} (record { sfits = c.minus.type_inv }), ← e)
     (c.minus.ensures ∙ ap negsuc h.0, h.1)
 
 pub returns-in-Over-whole : goal.returns-in-Over-whole
 returns-in-Over-whole c =
-    let h = subst (Held _ _) c.enum_told-in-Over-whole-1.given.1 c.whole-else-d-lt64.ensures in
-    let b = c.before in
+    let h = subst (Held _ _) c.in-Over-whole.is c.whole-else-d-lt64.ensures in
     let e = c.complement.ensures in
-    rw (signed_neg _ _ _ b.before.requires.0.low_lt b.if1.false b.before.requires.0.digit, ← e) h
+    rw (signed_neg _ _ _ c.requires.0.low_lt c.if-d-lt64.false c.requires.0.digit, ← e) h

@@ -1,0 +1,12 @@
+use Rattle.relr_table.proofs.PlaceNeeds.{opening}
+use borrow.Author.Rules.{rules}
+use Rattle.relr_table.proofs.place.open.Goals as goal
+
+pub returns-then-x-eq0 : goal.returns-then-x-eq0
+returns-then-x-eq0 c = search opening
+
+pub open_bitmap-requires : goal.open_bitmap-requires
+open_bitmap-requires c = search opening
+
+pub returns : goal.returns
+returns c = search opening

@@ -1,0 +1,6 @@
+use Rattle.std.proofs.Common.{rules}
+use Rattle.wrap.proofs.Words.{tests}
+use Rattle.wrap.proofs.fits_signed.Goals as goal
+
+pub returns : goal.returns
+returns c = search tests

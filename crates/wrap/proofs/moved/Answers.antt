@@ -1,0 +1,6 @@
+use Rattle.std.proofs.Common.{rules}
+use Rattle.wrap.proofs.Words.{sums}
+use Rattle.wrap.proofs.moved.Goals as goal
+
+pub returns : goal.returns
+returns c = search sums

@@ -1,0 +1,6 @@
+use Rattle.std.proofs.Common.{rules}
+use Rattle.wrap.proofs.Words.{signing}
+use Rattle.wrap.proofs.positive.Goals as goal
+
+pub returns : goal.returns
+returns c = search signing

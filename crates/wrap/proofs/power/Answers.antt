@@ -1,0 +1,6 @@
+use Rattle.std.proofs.Common.{rules}
+use Rattle.wrap.proofs.Words.{words}
+use Rattle.wrap.proofs.power.Goals as goal
+
+pub returns : goal.returns
+returns c = search words

@@ -1,0 +1,9 @@
+use Rattle.std.proofs.Common.{rules}
+use Rattle.wrap.proofs.Words.{sums}
+use Rattle.wrap.proofs.sub_signed.Goals as goal
+
+pub signed-requires : goal.signed-requires
+signed-requires c = search sums
+
+pub returns : goal.returns
+returns c = search sums
