@@ -210,7 +210,7 @@ module _ {k : Class} {s : List ℕ} {low high at count first : ℕ} {p : Place} 
         let m = marks_of k c.bits c.anchor in
         record {
           list = h.list ++ m;
-          standing = word_done (word_marked h.standing l e c.marked) c.ranges;
+          standing = word_done (word_marked h.standing l e c.marked) c.fits;
           counted = omega (arith, c.counted, h.counted, length-append h.list m);
           lead = leads_all h.lead m c.each;
           few = omega (arith, few_more, bytes_most k, bytes_least k, h.few);
