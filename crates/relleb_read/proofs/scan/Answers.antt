@@ -1,0 +1,9 @@
+use borrow.Author.Rules.{rules}
+use Rattle.relleb_read.proofs.PassNeeds.{fills}
+use Rattle.relleb_read.proofs.scan.Goals as goal
+
+pub returns-in_default : goal.returns-in_default
+returns-in_default c = search fills
+
+pub returns : goal.returns
+returns c = search fills

@@ -1,0 +1,15 @@
+use Rattle.relr_read.proofs.PassNeeds.{reads}
+use Rattle.std.proofs.Common.{rules}
+use Rattle.relr_read.proofs.read_class.Goals as goal
+
+pub returns-then-offsets-n : goal.returns-then-offsets-n
+returns-then-offsets-n c = search reads
+
+pub fill_class-requires : goal.fill_class-requires
+fill_class-requires c = search reads
+
+pub returns-in-Refused : goal.returns-in-Refused
+returns-in-Refused c = search reads
+
+pub returns-else-offsets-n : goal.returns-else-offsets-n
+returns-else-offsets-n c = search reads
