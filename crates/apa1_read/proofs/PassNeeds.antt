@@ -5,7 +5,7 @@ use mathlib.Core.Bool.{Bool}
 use mathlib.Core.Path.{◌≡◌, ap, sym, ◌∙◌, subst}
 use mathlib.Core.List.{List, [], ◌∷◌, ◌++◌}
 use native.Mathlib.Omega.{arith}
-use lib.IntN.{ℤ}
+use lib.IntN.{ℤ, pos}
 use lib.ListN.{length, set}
 use mir.Syntax.{w64}
 use mir.Val.{to_z, of_z, Fits}
@@ -64,18 +64,18 @@ module _ {strict : Bool} {s : List ℕ} {n first left at : ℕ} (i : Walking str
 pub ruleset walks = (walk_begin, walk_more, walk_bad, walk_end, walk_over, rules)
 
 -- ---- the second pass
--- the records before a place stand in the columns, and w is the bits of the last addend
-pub record Storing (strict : Bool) (s : List ℕ) (n first : ℕ) (os₀ : List ℕ) (us₀ : List ℤ) (os : List ℕ) (us : List ℤ) (left at o w i : ℕ) : Type 0 where
+-- the records before a place stand in the columns, and w is the last addend
+pub record Storing (strict : Bool) (s : List ℕ) (n first : ℕ) (os₀ : List ℕ) (us₀ : List ℤ) (os : List ℕ) (us : List ℤ) (left at o : ℕ) (w : ℤ) (i : ℕ) : Type 0 where
   pub list : List Row
-  pub stored : Stored (step_at strict s) (length s) (body strict s n first) list left at (row o (to_z w64 w)) i
+  pub stored : Stored (step_at strict s) (length s) (body strict s n first) list left at (row o w) i
   pub offsets : Column offset_of list i os₀ os
   pub addends : Column addend_of list i us₀ us
 
-pub store_begin : (strict : Bool) (s : List ℕ) (n first : ℕ) (os : List ℕ) (us : List ℤ) → Storing strict s n first os us os us n first 0 0 0
+pub store_begin : (strict : Bool) (s : List ℕ) (n first : ℕ) (os : List ℕ) (us : List ℤ) → Storing strict s n first os us os us n first 0 (pos 0) 0
 store_begin strict s n first os us =
     record { list = []; stored = stored_none (step_at strict s) (length s) n first start; offsets = column_none offset_of os; addends = column_none addend_of us }
 
-module _ {strict : Bool} {s : List ℕ} {n first : ℕ} {os₀ : List ℕ} {us₀ : List ℤ} {os : List ℕ} {us : List ℤ} {left at o w i : ℕ} (f : Fillable (body strict s n first) os₀ us₀) (g : Storing strict s n first os₀ us₀ os us left at o w i) where
+module _ {strict : Bool} {s : List ℕ} {n first : ℕ} {os₀ : List ℕ} {us₀ : List ℤ} {os : List ℕ} {us : List ℤ} {left at o : ℕ} {w : ℤ} {i : ℕ} (f : Fillable (body strict s n first) os₀ us₀) (g : Storing strict s n first os₀ us₀ os us left at o w i) where
   within : i ≤ length os₀
   within = stored_within f.fitting g.stored
 
@@ -85,7 +85,7 @@ module _ {strict : Bool} {s : List ℕ} {n first : ℕ} {os₀ : List ℕ} {us�
   pub store_same_2 : length us ≡ length us₀
   store_same_2 = column_same g.addends g.stored.long (omega (arith, within, f.same))
 
-  module _ {x : Entry} (h : 0 < left) (e : entry_step x ≡ step_at strict s at (row o (to_z w64 w))) where
+  module _ {x : Entry} (h : 0 < left) (e : entry_step x ≡ step_at strict s at (row o w)) where
     pub store_bad : {why : Refusal} {p : ℕ} → x ≡ Refused why p → Filled (body strict s n first) os₀ us₀ os us
     store_bad k = absurd (stored_bad f.fitting g.stored h (sym e ∙ ap entry_step k))
 
@@ -105,13 +105,13 @@ module _ {strict : Bool} {s : List ℕ} {n first : ℕ} {os₀ : List ℕ} {us�
       pub store_next : length os₀ < 2 ^ 64 → Fits w64 (i + 1)
       store_next q = record { fits = omega (arith, old_in) }
 
-      pub store_more : to_z w64 (of_z w64 a) ≡ a → Storing strict s n first os₀ us₀ (set os i o') (set us i (to_z w64 (of_z w64 a))) (left - 1) past o' (of_z w64 a) (i + 1)
-      store_more b =
+      pub store_more : Storing strict s n first os₀ us₀ (set os i o') (set us i a) (left - 1) past o' a (i + 1)
+      store_more =
           record {
-            list = g.list ++ row o' (to_z w64 (of_z w64 a)) ∷ [];
-            stored = rw b (stored_more f.fitting g.stored h (sym e ∙ ap entry_step k));
-            offsets = column_next g.offsets g.stored.long (row o' (to_z w64 (of_z w64 a))) old_in;
-            addends = column_next g.addends g.stored.long (row o' (to_z w64 (of_z w64 a))) (omega (arith, old_in, f.same));
+            list = g.list ++ row o' a ∷ [];
+            stored = stored_more f.fitting g.stored h (sym e ∙ ap entry_step k);
+            offsets = column_next g.offsets g.stored.long (row o' a) old_in;
+            addends = column_next g.addends g.stored.long (row o' a) (omega (arith, old_in, f.same));
           }
 
   pub store_end : left ≤ 0 → Filled (body strict s n first) os₀ us₀ os us

@@ -1,4 +1,4 @@
--- What the writer's passes go by, as the code asks it. A loop has the bits of the addend before, w.
+-- What the writer's passes go by, as the code asks it. A loop has the addend before, w.
 -- Assumes nothing.
 use Prim.Native.Nat.{ℕ, ◌+◌, ◌^◌, ◌≤◌, ◌<◌}
 use mathlib.Core.Path.{◌≡◌, refl, ap, sym, ◌∙◌}
@@ -37,15 +37,15 @@ module _ (os : List ℕ) (us : List ℤ) (same : length os ≡ length us) (i : �
 
 -- ---- the first pass
 -- the records before index i; of an addend its range is known where it was read
-pub record Sizing (os : List ℕ) (us : List ℤ) (total o w i : ℕ) : Type 0 where
-  pub sized : Sized put_of behind (build (rows os us)) (rows os us) 20 total i (row o (to_z w64 w))
+pub record Sizing (os : List ℕ) (us : List ℤ) (total o : ℕ) (w : ℤ) (i : ℕ) : Type 0 where
+  pub sized : Sized put_of behind (build (rows os us)) (rows os us) 20 total i (row o w)
   pub within : i ≤ length os
   pub small : (j : ℕ) → j < i → mag (get_or us j (pos 0)) < 2 ^ 63
 
 pub size_few : {os : List ℕ} {us : List ℤ} → Listed os us → length os < 2 ^ 63
 size_few l = omega (arith, l.few, list_small)
 
-pub size_begin : {os : List ℕ} {us : List ℤ} {total : ℕ} → Listed os us → total ≡ length (head_of (length os)) → Sizing os us total 0 0 0
+pub size_begin : {os : List ℕ} {us : List ℤ} {total : ℕ} → Listed os us → total ≡ length (head_of (length os)) → Sizing os us total 0 (pos 0) 0
 size_begin {os} {us} l e =
     let n = rows_length os us l.same in
     let m = head_most (length (rows os us)) (omega (arith, l.few, list_small)) in
@@ -55,15 +55,15 @@ size_begin {os} {us} l e =
       small = λ j h. absurd (omega arith);
     }
 
-module _ {os : List ℕ} {us : List ℤ} {total o w i : ℕ} (l : Listed os us) (g : Sizing os us total o w i) where
-  module _ {r : ℕ} (h : i < length os) (m : mag (get_or us i (pos 0)) < 2 ^ 63) (e : r ≡ length (entry_bytes (row o (to_z w64 w)) (row (get_or os i 0) (Bits (get_or us i (pos 0)))))) where
+module _ {os : List ℕ} {us : List ℤ} {total o : ℕ} {w : ℤ} {i : ℕ} (l : Listed os us) (g : Sizing os us total o w i) where
+  module _ {r : ℕ} (h : i < length os) (m : mag (get_or us i (pos 0)) < 2 ^ 63) (e : r ≡ length (entry_bytes (row o w) (row (get_or os i 0) (Bits (get_or us i (pos 0)))))) where
     pub size_sum : Fits w64 (total + r)
-    size_sum = record { fits = omega (arith, g.sized.few, l.few, list_small, entry_most (row o (to_z w64 w)) (row (get_or os i 0) (Bits (get_or us i (pos 0))))) }
+    size_sum = record { fits = omega (arith, g.sized.few, l.few, list_small, entry_most (row o w) (row (get_or os i 0) (Bits (get_or us i (pos 0))))) }
 
-    pub size_more : Sizing os us (total + r) (get_or os i 0) (of_z w64 (get_or us i (pos 0))) (i + 1)
+    pub size_more : Sizing os us (total + r) (get_or os i 0) (Bits (get_or us i (pos 0))) (i + 1)
     size_more =
         record {
-          sized = rw e (sized_more g.sized (here os us l.same i h m) refl (entry_most (row o (to_z w64 w)) (row (get_or os i 0) (Bits (get_or us i (pos 0))))));
+          sized = rw e (sized_more g.sized (here os us l.same i h m) refl (entry_most (row o w) (row (get_or os i 0) (Bits (get_or us i (pos 0))))));
           within = omega arith;
           small = below_more (λ (j : ℕ). mag (get_or us j (pos 0)) < 2 ^ 63) i g.small m;
         }
@@ -92,22 +92,22 @@ abbrev pub body : List ℕ → List ℤ → Outcome (List ℕ)
 body os us = puts put_of behind 0 start (rows os us)
 
 -- the bytes of the records before index i stand in the buffer
-pub record Filling (os : List ℕ) (us : List ℤ) (old now : List ℕ) (first at o w i : ℕ) : Type 0 where
-  pub putting : Putting put_of behind (body os us) (rows os us) old now first at i (row o (to_z w64 w))
+pub record Filling (os : List ℕ) (us : List ℤ) (old now : List ℕ) (first at o : ℕ) (w : ℤ) (i : ℕ) : Type 0 where
+  pub putting : Putting put_of behind (body os us) (rows os us) old now first at i (row o w)
 
-pub put_begin : (os : List ℕ) (us : List ℤ) (old : List ℕ) (at : ℕ) → Filling os us old old at at 0 0 0
+pub put_begin : (os : List ℕ) (us : List ℤ) (old : List ℕ) (at : ℕ) → Filling os us old old at at 0 (pos 0) 0
 put_begin os us old at = record { putting = putting_none put_of behind (rows os us) old at start }
 
-module _ {os : List ℕ} {us : List ℤ} {old now : List ℕ} {first at o w i : ℕ} (f : Puttable (body os us) os us old first) (g : Filling os us old now first at o w i) where
+module _ {os : List ℕ} {us : List ℤ} {old now : List ℕ} {first at o : ℕ} {w : ℤ} {i : ℕ} (f : Puttable (body os us) os us old first) (g : Filling os us old now first at o w i) where
   pub put_same : length now ≡ length old
   put_same = putting_same f.fits g.putting
 
   module _ (h : i < length os) (m : mag (get_or us i (pos 0)) < 2 ^ 63) where
-    pub put_room : at + length (entry_bytes (row o (to_z w64 w)) (row (get_or os i 0) (Bits (get_or us i (pos 0))))) ≤ length now
+    pub put_room : at + length (entry_bytes (row o w) (row (get_or os i 0) (Bits (get_or us i (pos 0))))) ≤ length now
     put_room = putting_room f.fits g.putting (here os us f.same i h m) refl
 
-    pub put_more : {new : List ℕ} {past : ℕ} → Written now new at past (entry_bytes (row o (to_z w64 w)) (row (get_or os i 0) (Bits (get_or us i (pos 0)))))
-        → Filling os us old new first past (get_or os i 0) (of_z w64 (get_or us i (pos 0))) (i + 1)
+    pub put_more : {new : List ℕ} {past : ℕ} → Written now new at past (entry_bytes (row o w) (row (get_or os i 0) (Bits (get_or us i (pos 0)))))
+        → Filling os us old new first past (get_or os i 0) (Bits (get_or us i (pos 0))) (i + 1)
     put_more v = record { putting = putting_more f.fits g.putting (here os us f.same i h m) refl v }
 
   pub put_end : length os ≤ i → Puts (body os us) old now first

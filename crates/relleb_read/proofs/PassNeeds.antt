@@ -1,11 +1,11 @@
--- What both passes go by, as the code asks it: x is what the reader of a record returned. A loop has the addend's bits, w.
+-- What both passes go by, as the code asks it: x is what the reader of a record returned. A loop has the addend, w.
 -- Assumes nothing.
 use Prim.Native.Nat.{ℕ, ◌+◌, ◌-◌, ◌*◌, ◌^◌, ◌≤◌, ◌<◌}
 use mathlib.Core.Path.{◌≡◌, ap, sym, ◌∙◌, subst}
 use mathlib.Core.Bool.{Bool}
 use mathlib.Core.List.{List, [], ◌∷◌, ◌++◌}
 use native.Mathlib.Omega.{arith}
-use lib.IntN.{ℤ}
+use lib.IntN.{ℤ, pos}
 use lib.ListN.{length, set}
 use mir.Syntax.{w64}
 use mir.Val.{to_z, of_z, Fits}
@@ -65,16 +65,16 @@ module _ {strict : Bool} {W : ℕ} {s : List ℕ} {n first left at : ℕ} (i : W
 pub ruleset walks = (walk_begin, walk_more, walk_bad, walk_end, walk_over, rules)
 
 -- ---- the second pass
--- the records before a place stand in the columns, and w is the bits of the last addend
-pub record Storing (strict : Bool) (W : ℕ) (s : List ℕ) (n first : ℕ) (os₀ ts₀ ys₀ : List ℕ) (us₀ : List ℤ) (os ts ys : List ℕ) (us : List ℤ) (left at o t w i : ℕ) : Type 0 where
+-- the records before a place stand in the columns, and w is the last addend
+pub record Storing (strict : Bool) (W : ℕ) (s : List ℕ) (n first : ℕ) (os₀ ts₀ ys₀ : List ℕ) (us₀ : List ℤ) (os ts ys : List ℕ) (us : List ℤ) (left at o t : ℕ) (w : ℤ) (i : ℕ) : Type 0 where
   pub list : List Row
-  pub stored : Stored (step_at strict W s) (length s) (body strict W s n first) list left at (state o t (to_z w64 w)) i
+  pub stored : Stored (step_at strict W s) (length s) (body strict W s n first) list left at (state o t w) i
   pub offsets : Column offset_of list i os₀ os
   pub types : Column type_of list i ts₀ ts
   pub symbols : Column symbol_of list i ys₀ ys
   pub addends : Column addend_of list i us₀ us
 
-pub store_begin : (strict : Bool) (W : ℕ) (s : List ℕ) (n first : ℕ) (os ts ys : List ℕ) (us : List ℤ) → Storing strict W s n first os ts ys us os ts ys us n first 0 0 0 0
+pub store_begin : (strict : Bool) (W : ℕ) (s : List ℕ) (n first : ℕ) (os ts ys : List ℕ) (us : List ℤ) → Storing strict W s n first os ts ys us os ts ys us n first 0 0 (pos 0) 0
 store_begin strict W s n first os ts ys us =
     record {
       list = [];
@@ -85,7 +85,7 @@ store_begin strict W s n first os ts ys us =
       addends = column_none addend_of us;
     }
 
-module _ {strict : Bool} {W : ℕ} {s : List ℕ} {n first : ℕ} {os₀ ts₀ ys₀ : List ℕ} {us₀ : List ℤ} {os ts ys : List ℕ} {us : List ℤ} {left at o t w i : ℕ} (f : Fillable (body strict W s n first) os₀ ts₀ ys₀ us₀) (g : Storing strict W s n first os₀ ts₀ ys₀ us₀ os ts ys us left at o t w i) where
+module _ {strict : Bool} {W : ℕ} {s : List ℕ} {n first : ℕ} {os₀ ts₀ ys₀ : List ℕ} {us₀ : List ℤ} {os ts ys : List ℕ} {us : List ℤ} {left at o t : ℕ} {w : ℤ} {i : ℕ} (f : Fillable (body strict W s n first) os₀ ts₀ ys₀ us₀) (g : Storing strict W s n first os₀ ts₀ ys₀ us₀ os ts ys us left at o t w i) where
   within : i ≤ length os₀
   within = stored_within f.fitting g.stored
 
@@ -101,7 +101,7 @@ module _ {strict : Bool} {W : ℕ} {s : List ℕ} {n first : ℕ} {os₀ ts₀ y
   pub store_same_4 : length us ≡ length us₀
   store_same_4 = column_same g.addends g.stored.long (omega (arith, within, f.same.addends))
 
-  module _ {x : Entry} (h : 0 < left) (e : entry_step x ≡ step_at strict W s at (state o t (to_z w64 w))) where
+  module _ {x : Entry} (h : 0 < left) (e : entry_step x ≡ step_at strict W s at (state o t w)) where
     pub store_bad : {why : Refusal} {p : ℕ} → x ≡ Refused why p → Filled (body strict W s n first) os₀ ts₀ ys₀ us₀ os ts ys us
     store_bad k = absurd (stored_bad f.fitting g.stored h (sym e ∙ ap entry_step k))
 
@@ -130,14 +130,13 @@ module _ {strict : Bool} {W : ℕ} {s : List ℕ} {n first : ℕ} {os₀ ts₀ y
       pub store_next : length os₀ < 2 ^ 64 → Fits w64 (i + 1)
       store_next q = record { fits = omega (arith, old_in) }
 
-      pub store_more : to_z w64 (of_z w64 a) ≡ a
-          → Storing strict W s n first os₀ ts₀ ys₀ us₀ (set os i o') (set ts i t') (set ys i y) (set us i (to_z w64 (of_z w64 a))) (left - 1) past o' t' (of_z w64 a) (i + 1)
-      store_more b =
+      pub store_more : Storing strict W s n first os₀ ts₀ ys₀ us₀ (set os i o') (set ts i t') (set ys i y) (set us i a) (left - 1) past o' t' a (i + 1)
+      store_more =
           let l = g.stored.long in
-          let z = row o' t' y (to_z w64 (of_z w64 a)) in
+          let z = row o' t' y a in
           record {
             list = g.list ++ z ∷ [];
-            stored = rw b (stored_more f.fitting g.stored h (sym e ∙ ap entry_step k));
+            stored = stored_more f.fitting g.stored h (sym e ∙ ap entry_step k);
             offsets = column_next g.offsets l z old_in;
             types = column_next g.types l z (omega (arith, old_in, f.same.types));
             symbols = column_next g.symbols l z (omega (arith, old_in, f.same.symbols));

@@ -1,4 +1,4 @@
--- What the writer's passes go by, as the code asks it: x is what `fields_of` returned. A loop has the bits of the addend before, w.
+-- What the writer's passes go by, as the code asks it: x is what `fields_of` returned. A loop has the addend before, w.
 -- Assumes nothing.
 use Prim.Native.Nat.{ℕ, ◌+◌, ◌^◌, ◌≤◌, ◌<◌}
 use mathlib.Core.Path.{◌≡◌, ap, sym, ◌∙◌}
@@ -57,11 +57,11 @@ put_wide W prev x w o a e =
     omega arith
 
 -- the records before index i
-pub record Sizing (W : ℕ) (os ts ys : List ℕ) (us : List ℤ) (total o t w i : ℕ) : Type 0 where
-  pub sized : Sized (put_of W) behind (build W (rows os ts ys us)) (rows os ts ys us) 40 total i (state o t (to_z w64 w))
+pub record Sizing (W : ℕ) (os ts ys : List ℕ) (us : List ℤ) (total o t : ℕ) (w : ℤ) (i : ℕ) : Type 0 where
+  pub sized : Sized (put_of W) behind (build W (rows os ts ys us)) (rows os ts ys us) 40 total i (state o t w)
   pub within : i ≤ length os
 
-pub size_begin : (W : ℕ) {os ts ys : List ℕ} {us : List ℤ} {total : ℕ} → Listed os ts ys us → total ≡ length (short_unsigned (length os)) → Sizing W os ts ys us total 0 0 0 0
+pub size_begin : (W : ℕ) {os ts ys : List ℕ} {us : List ℤ} {total : ℕ} → Listed os ts ys us → total ≡ length (short_unsigned (length os)) → Sizing W os ts ys us total 0 0 (pos 0) 0
 size_begin W {os} {ts} {ys} {us} l e =
     let n = many os ts ys us l.same in
     let k = unsigned_bytes 64 (length (rows os ts ys us)) (omega arith) (omega (arith, l.few, list_small)) in
@@ -70,16 +70,16 @@ size_begin W {os} {ts} {ys} {us} l e =
       within = omega arith;
     }
 
-module _ {W : ℕ} {os ts ys : List ℕ} {us : List ℤ} {total o t w i : ℕ} (l : Listed os ts ys us) (g : Sizing W os ts ys us total o t w i) where
+module _ {W : ℕ} {os ts ys : List ℕ} {us : List ℤ} {total o t : ℕ} {w : ℤ} {i : ℕ} (l : Listed os ts ys us) (g : Sizing W os ts ys us total o t w i) where
   limit : encode W (rows os ts ys us) ≡ build W (rows os ts ys us)
   limit = encode_in W (rows os ts ys us) (omega (arith, many os ts ys us l.same, l.few))
 
-  module _ {x : Fields} {d : ℕ} {q f a : ℤ} {r : ℕ} (h : i < length os) (m : mag (get_or us i (pos 0)) < 2 ^ 63) (e : fields_put x ≡ put_of W (state o t (to_z w64 w)) (row_at os ts ys us i))
+  module _ {x : Fields} {d : ℕ} {q f a : ℤ} {r : ℕ} (h : i < length os) (m : mag (get_or us i (pos 0)) < 2 ^ 63) (e : fields_put x ≡ put_of W (state o t w) (row_at os ts ys us i))
       (k : x ≡ Numbers d q f a) (i₁ : Bits q ≡ q) (i₂ : Bits f ≡ f) (i₃ : Bits a ≡ a) (n : Measured r (field_bytes d (Bits q) (Bits f) (Bits a))) where
     pub size_sum : Fits w64 (total + r)
     size_sum = record { fits = omega (arith, g.sized.few, g.within, l.few, n.few, list_small) }
 
-    pub size_more : Sizing W os ts ys us (total + r) (get_or os i 0) (get_or ts i 0) (of_z w64 (get_or us i (pos 0))) (i + 1)
+    pub size_more : Sizing W os ts ys us (total + r) (get_or os i 0) (get_or ts i 0) (Bits (get_or us i (pos 0))) (i + 1)
     size_more =
         record {
           sized = rw (n.is, i₁, i₂, i₃) (sized_more g.sized (here os ts ys us l.same i h m) (sym e ∙ ap fields_put k) (rw (n.is, i₁, i₂, i₃) at n.few));
@@ -105,7 +105,7 @@ module _ {W : ℕ} {os ts ys : List ℕ} {us : List ℤ} {total o t w i : ℕ} (
   size_in_4 h = omega (arith, l.same.addends)
 
 -- a refused record; at 64 bits there is none
-pub size_bad : {W : ℕ} {os ts ys : List ℕ} {us : List ℤ} {total o t w i : ℕ} {x : Fields} {why : Refusal} → x ≡ Refused why → fields_put x ≡ put_of W (state o t (to_z w64 w)) (row_at os ts ys us i)
+pub size_bad : {W : ℕ} {os ts ys : List ℕ} {us : List ℤ} {total o t : ℕ} {w : ℤ} {i : ℕ} {x : Fields} {why : Refusal} → x ≡ Refused why → fields_put x ≡ put_of W (state o t w) (row_at os ts ys us i)
     → Sizing W os ts ys us total o t w i → Listed os ts ys us → i < length os → mag (get_or us i (pos 0)) < 2 ^ 63 → ((j : ℕ) → Fits w64 (get_or os j 0)) → Measures W os ts ys us (found.Refused why i)
 size_bad {W} {os} {ts} {ys} {us} {i = i} f e g l h m wide =
     let p = sized_bad g.sized (here os ts ys us l.same i h m) (sym e ∙ ap fields_put f) ∙ ap found_of (sym (limit l g)) in
@@ -131,17 +131,17 @@ abbrev pub body : ℕ → List ℕ → List ℕ → List ℕ → List ℤ → Ou
 body W os ts ys us = puts (put_of W) behind 0 start (rows os ts ys us)
 
 -- the bytes of the records before index i stand in the buffer
-pub record Filling (W : ℕ) (os ts ys : List ℕ) (us : List ℤ) (old now : List ℕ) (first at o t w i : ℕ) : Type 0 where
-  pub putting : Putting (put_of W) behind (body W os ts ys us) (rows os ts ys us) old now first at i (state o t (to_z w64 w))
+pub record Filling (W : ℕ) (os ts ys : List ℕ) (us : List ℤ) (old now : List ℕ) (first at o t : ℕ) (w : ℤ) (i : ℕ) : Type 0 where
+  pub putting : Putting (put_of W) behind (body W os ts ys us) (rows os ts ys us) old now first at i (state o t w)
 
-pub put_begin : (W : ℕ) (os ts ys : List ℕ) (us : List ℤ) (old : List ℕ) (at : ℕ) → Filling W os ts ys us old old at at 0 0 0 0
+pub put_begin : (W : ℕ) (os ts ys : List ℕ) (us : List ℤ) (old : List ℕ) (at : ℕ) → Filling W os ts ys us old old at at 0 0 (pos 0) 0
 put_begin W os ts ys us old at = record { putting = putting_none (put_of W) behind (rows os ts ys us) old at start }
 
-module _ {W : ℕ} {os ts ys : List ℕ} {us : List ℤ} {old now : List ℕ} {first at o t w i : ℕ} (f : Puttable (body W os ts ys us) os ts ys us old first) (g : Filling W os ts ys us old now first at o t w i) where
+module _ {W : ℕ} {os ts ys : List ℕ} {us : List ℤ} {old now : List ℕ} {first at o t : ℕ} {w : ℤ} {i : ℕ} (f : Puttable (body W os ts ys us) os ts ys us old first) (g : Filling W os ts ys us old now first at o t w i) where
   pub put_same : length now ≡ length old
   put_same = putting_same f.fits g.putting
 
-  module _ {x : Fields} (h : i < length os) (m : mag (get_or us i (pos 0)) < 2 ^ 63) (e : fields_put x ≡ put_of W (state o t (to_z w64 w)) (row_at os ts ys us i)) where
+  module _ {x : Fields} (h : i < length os) (m : mag (get_or us i (pos 0)) < 2 ^ 63) (e : fields_put x ≡ put_of W (state o t w) (row_at os ts ys us i)) where
     pub put_bad : {why : Refusal} → x ≡ Refused why → Puts (body W os ts ys us) old now first
     put_bad k = absurd (putting_bad f.fits g.putting (here os ts ys us f.same i h m) (sym e ∙ ap fields_put k))
 
@@ -150,7 +150,7 @@ module _ {W : ℕ} {os ts ys : List ℕ} {us : List ℤ} {old now : List ℕ} {f
       put_room = rw (i₁, i₂, i₃) (putting_room f.fits g.putting (here os ts ys us f.same i h m) (sym e ∙ ap fields_put k))
 
       pub put_more : {new : List ℕ} {past : ℕ} → Written now new at past (field_bytes d (Bits q) (Bits p) (Bits a))
-          → Filling W os ts ys us old new first past (get_or os i 0) (get_or ts i 0) (of_z w64 (get_or us i (pos 0))) (i + 1)
+          → Filling W os ts ys us old new first past (get_or os i 0) (get_or ts i 0) (Bits (get_or us i (pos 0))) (i + 1)
       put_more v = record { putting = putting_more f.fits g.putting (here os ts ys us f.same i h m) (sym e ∙ ap fields_put k) (rw (i₁, i₂, i₃) at v) }
 
   pub put_end : length os ≤ i → Puts (body W os ts ys us) old now first
