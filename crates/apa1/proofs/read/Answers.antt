@@ -1,0 +1,18 @@
+use borrow.Author.Rules.{rules}
+use Rattle.apa1_table.specs.Contract.Laws.{reading}
+use Rattle.apa1.proofs.read.Goals as goal
+
+pub returns-then-offsets-addends : goal.returns-then-offsets-addends
+returns-then-offsets-addends c = search reading
+
+pub returns-then-offsets-count : goal.returns-then-offsets-count
+returns-then-offsets-count c = search reading
+
+pub fill-requires : goal.fill-requires
+fill-requires c = search reading
+
+pub returns-in-Refused : goal.returns-in-Refused
+returns-in-Refused c = search reading
+
+pub returns-else-offsets-count : goal.returns-else-offsets-count
+returns-else-offsets-count c = search reading

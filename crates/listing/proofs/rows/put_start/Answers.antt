@@ -1,0 +1,6 @@
+use Rattle.listing.proofs.RowNeeds.{starts}
+use borrow.Author.Rules.{rules}
+use Rattle.listing.proofs.rows.put_start.Goals as goal
+
+pub returns : goal.returns
+returns c = search starts

@@ -1,0 +1,6 @@
+use Rattle.listing.proofs.RowNeeds.{types}
+use borrow.Author.Rules.{rules}
+use Rattle.listing.proofs.rows.put_types.Goals as goal
+
+pub returns : goal.returns
+returns c = search types
