@@ -13,7 +13,7 @@ use lib.Dec.{ltb, leb, eqb, lit<}
 use lib.Arith.{digits_lt}
 use lib.ListN.{length, get_or, drop}
 use lib.Seq.{get_or-drop}
-use lib.IntN.{ℤ, pos, negsuc}
+use lib.IntN.{ℤ}
 use lib.Signed.{mag}
 use mir.Syntax.{w64}
 use mir.Val.{Fits}

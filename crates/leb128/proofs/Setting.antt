@@ -5,7 +5,7 @@
 use mathlib.Core.Path.{◌≡◌, refl, sym, ap, ◌∙◌, subst}
 use mathlib.Core.List.{List, ◌++◌, append_assoc}
 use mathlib.Core.Bool.{Bool, true, false, cond}
-use mathlib.Core.Logic.{◌⊎◌, inl, inr}
+use mathlib.Core.Logic.{inl, inr}
 use Prim.Native.Nat.{ℕ, ◌+◌, ◌-◌, ◌^◌, ◌≤◌, ◌<◌}
 use native.Mathlib.Omega.{arith}
 use lib.ListN.{length, take, drop, drop_of_length-le}
@@ -20,7 +20,7 @@ use Rattle.answer.specs.declared.Refusal.{Refusal}
 use Rattle.answer.specs.declared.Refusal.TheVariants.{Missing, Width, Padded}
 use Rattle.leb128.specs.Number.{raw, lax_unsigned, lax_signed, short_unsigned, short_signed, padded, unpadded_unsigned, unpadded_signed, read_unsigned, read_signed}
 use Rattle.leb128.specs.Longer.{LongerUnsigned, LongerSigned}
-use Rattle.leb128.specs.LastByte.{BadUnsigned, BadSigned, Guilty, OutsideUnsigned, OutsideSigned}
+use Rattle.leb128.specs.LastByte.{OutsideUnsigned, OutsideSigned}
 use Rattle.leb128.specs.declared.Unsigned.{Unsigned}
 use Rattle.leb128.specs.declared.Unsigned.TheVariants.{Value as UValue, Refused as URefused}
 use Rattle.leb128.specs.declared.Signed.{Signed}

@@ -1,7 +1,7 @@
 -- What strict reading accepts, once over the width B: the bytes of the number are its shortest form.
 -- Assumes nothing.
 use mathlib.Core.Path.{◌≡◌, refl, sym, ap, ap₂, ◌∙◌, subst}
-use mathlib.Core.List.{List, [], ◌∷◌, ◌++◌, append-nil}
+use mathlib.Core.List.{List, [], ◌∷◌, ◌++◌}
 use mathlib.Core.Bool.{Bool, true, false, cond}
 use Prim.Native.Nat.{ℕ, zero, suc, ◌+◌, ◌-◌, ◌*◌, ◌%◌, ◌^◌, ◌≤◌, ◌<◌}
 use native.Mathlib.Omega.{arith}
@@ -10,9 +10,9 @@ use lib.Seq.{take-append_seam, drop-drop}
 use lib.Dec.{ltb, lit<, lit≤}
 use lib.IntN.{ℤ, pos, negsuc}
 use lib.Signed.{mag}
-use borrow.Author.Tests.{ltb-true, ltb-false}
+use borrow.Author.Tests.{ltb-false}
 use Rattle.answer.specs.Bytes.{Bytes, bytes_drop, bytes_append}
-use Rattle.leb128.specs.Number.{Raw, cut, long, got, more, raw, count, last_place, unsigned_of, lax_unsigned, signed, signed_of, lax_signed, turn, short, short_by, short_unsigned, is_neg, short_signed, read_unsigned, read_signed}
+use Rattle.leb128.specs.Number.{Raw, cut, long, got, more, raw, count, last_place, unsigned_of, lax_unsigned, signed, signed_of, lax_signed, short, short_by, short_unsigned, is_neg, short_signed, read_unsigned, read_signed}
 use Rattle.leb128.specs.declared.Unsigned.TheVariants.{Value as UValue, Refused as URefused}
 use Rattle.leb128.specs.declared.Signed.TheVariants.{Value as SValue, Refused as SRefused}
 use Rattle.answer.specs.declared.Refusal.TheVariants.{Width}

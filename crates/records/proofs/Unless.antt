@@ -1,9 +1,8 @@
 -- Two readings of records, of which the one is the other unless it is refused for a reason of its own: if so of each step, then of all.
 -- Assumes nothing.
 use Prim.Native.Nat.{ℕ, zero, suc}
-use mathlib.Core.Path.{◌≡◌, refl}
+use mathlib.Core.Path.{refl}
 use mathlib.Core.List.{List}
-use Rattle.answer.specs.declared.Refusal.{Refusal}
 use Rattle.answer.specs.Outcome.{Outcome, refused, before}
 use Rattle.answer.specs.Said.{Said}
 use Rattle.answer.specs.Unless.{Unless, same, unless_then}

@@ -1,5 +1,4 @@
 use Rattle.apr1_read.proofs.EntryNeeds.{entries}
-use borrow.Author.Rules.{rules}
 use Rattle.apr1_read.proofs.entry_at.Goals as goal
 
 pub returns-in_default : goal.returns-in_default

@@ -1,5 +1,4 @@
 use Rattle.apr1_read.proofs.PassNeeds.{fills}
-use borrow.Author.Rules.{rules}
 use Rattle.apr1_read.proofs.fill.Goals as goal
 
 pub returns-in_default : goal.returns-in_default

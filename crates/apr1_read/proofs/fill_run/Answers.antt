@@ -1,4 +1,4 @@
-use Rattle.apr1_read.proofs.PassNeeds.{Filling, runs}
+use Rattle.apr1_read.proofs.PassNeeds.{runs}
 use Rattle.apr1_read.proofs.fill_run.Goals as goal
 
 pub loop-more-init : goal.loop-more-init

@@ -1,4 +1,4 @@
-use Rattle.apr1_read.proofs.PassNeeds.{Filling, runs}
+use Rattle.apr1_read.proofs.PassNeeds.{Filling}
 use Rattle.apr1_read.proofs.fill_run.Given as goal
 
 abbrev pub invariant-loop-more : goal.invariant-loop-more

@@ -1,5 +1,4 @@
 use Rattle.apr1_read.proofs.EntryNeeds.{heads}
-use borrow.Author.Rules.{rules}
 use Rattle.apr1_read.proofs.head_of.Goals as goal
 
 pub returns-then-not-identified : goal.returns-then-not-identified

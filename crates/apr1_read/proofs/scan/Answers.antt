@@ -1,5 +1,4 @@
 use Rattle.apr1_read.proofs.PassNeeds.{scans}
-use borrow.Author.Rules.{rules}
 use Rattle.apr1_read.proofs.scan.Goals as goal
 
 pub walk-requires : goal.walk-requires

@@ -1,5 +1,4 @@
-use mathlib.Core.Bool.{false}
-use Rattle.apr1_read.proofs.PassNeeds.{Storing, stores}
+use Rattle.apr1_read.proofs.PassNeeds.{stores}
 use Rattle.apr1_read.proofs.store_pairs.Goals as goal
 
 pub loop-rest-init : goal.loop-rest-init

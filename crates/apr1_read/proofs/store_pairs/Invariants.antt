@@ -1,5 +1,5 @@
 use mathlib.Core.Bool.{false}
-use Rattle.apr1_read.proofs.PassNeeds.{Storing, stores}
+use Rattle.apr1_read.proofs.PassNeeds.{Storing}
 use Rattle.apr1_read.proofs.store_pairs.Given as goal
 
 abbrev pub invariant-loop-rest : goal.invariant-loop-rest

@@ -1,4 +1,4 @@
-use Rattle.apr1_read.proofs.PassNeeds.{Walking, walks}
+use Rattle.apr1_read.proofs.PassNeeds.{walks}
 use Rattle.apr1_read.proofs.walk.Goals as goal
 
 pub loop-left-init : goal.loop-left-init

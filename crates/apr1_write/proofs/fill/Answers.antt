@@ -1,5 +1,4 @@
 use Rattle.apr1_write.proofs.PassNeeds.{fills}
-use borrow.Author.Rules.{rules}
 use Rattle.apr1_write.proofs.fill.Goals as goal
 
 pub put_head-at-requires : goal.put_head-at-requires

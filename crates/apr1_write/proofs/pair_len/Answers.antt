@@ -1,5 +1,4 @@
 use Rattle.apr1_write.proofs.EntryNeeds.{lengths}
-use borrow.Author.Rules.{rules}
 use Rattle.apr1_write.proofs.pair_len.Goals as goal
 
 pub overflow_add-result : goal.overflow_add-result

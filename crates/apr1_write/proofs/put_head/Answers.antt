@@ -1,5 +1,4 @@
 use Rattle.apr1_write.proofs.EntryNeeds.{lengths}
-use borrow.Author.Rules.{rules}
 use Rattle.apr1_write.proofs.put_head.Goals as goal
 
 pub put_identifier-at-requires : goal.put_identifier-at-requires

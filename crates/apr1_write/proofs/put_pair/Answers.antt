@@ -1,5 +1,4 @@
 use Rattle.apr1_write.proofs.EntryNeeds.{lengths}
-use borrow.Author.Rules.{rules}
 use Rattle.apr1_write.proofs.put_pair.Goals as goal
 
 pub write_unsigned-next-requires : goal.write_unsigned-next-requires

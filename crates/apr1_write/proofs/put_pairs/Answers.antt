@@ -1,6 +1,4 @@
-use Rattle.apr1_write.proofs.PassNeeds.{Putting, puttings}
-use lib.ListN.{length}
-use Prim.Native.Nat.{◌-◌}
+use Rattle.apr1_write.proofs.PassNeeds.{puttings}
 use Rattle.apr1_write.proofs.put_pairs.Goals as goal
 
 pub bounds-offsets-0 : goal.bounds-offsets-0

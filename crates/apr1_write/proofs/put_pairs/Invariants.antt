@@ -1,4 +1,4 @@
-use Rattle.apr1_write.proofs.PassNeeds.{Putting, puttings}
+use Rattle.apr1_write.proofs.PassNeeds.{Putting}
 use lib.ListN.{length}
 use Prim.Native.Nat.{◌-◌}
 use Rattle.apr1_write.proofs.put_pairs.Given as goal

@@ -1,6 +1,4 @@
-use Rattle.apr1_write.proofs.EntryNeeds.{Counting, counts}
-use lib.ListN.{length}
-use Prim.Native.Nat.{◌-◌}
+use Rattle.apr1_write.proofs.EntryNeeds.{counts}
 use Rattle.apr1_write.proofs.run_from.Goals as goal
 
 pub loop-i-init : goal.loop-i-init

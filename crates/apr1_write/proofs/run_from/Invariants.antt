@@ -1,4 +1,4 @@
-use Rattle.apr1_write.proofs.EntryNeeds.{Counting, counts}
+use Rattle.apr1_write.proofs.EntryNeeds.{Counting}
 use lib.ListN.{length}
 use Prim.Native.Nat.{◌-◌}
 use Rattle.apr1_write.proofs.run_from.Given as goal

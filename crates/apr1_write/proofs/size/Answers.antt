@@ -1,6 +1,4 @@
-use Rattle.apr1_write.proofs.PassNeeds.{Sizing, sizes}
-use lib.ListN.{length}
-use Prim.Native.Nat.{◌-◌}
+use Rattle.apr1_write.proofs.PassNeeds.{sizes}
 use Rattle.apr1_write.proofs.size.Goals as goal
 
 pub bounds-offsets-0 : goal.bounds-offsets-0

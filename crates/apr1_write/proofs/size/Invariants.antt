@@ -1,4 +1,4 @@
-use Rattle.apr1_write.proofs.PassNeeds.{Sizing, sizes}
+use Rattle.apr1_write.proofs.PassNeeds.{Sizing}
 use lib.ListN.{length}
 use Prim.Native.Nat.{◌-◌}
 use Rattle.apr1_write.proofs.size.Given as goal

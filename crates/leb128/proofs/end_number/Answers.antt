@@ -1,7 +1,6 @@
 use mathlib.Core.Path.{subst}
 use native.Mathlib.Omega.{arith}
 use Rattle.leb128.specs.Inner.{EndsSigned}
-use borrow.Author.Rules.{rules}
 use Rattle.leb128.proofs.end_number.Goals as goal
 
 pub returns-in-Positive : goal.returns-in-Positive

@@ -1,7 +1,6 @@
 use mir.Syntax.{w64}
 use mir.Facts.{to_z-of_z}
 use Rattle.leb128.proofs.Signs.{minus_is}
-use borrow.Author.Rules.{rules}
 use Rattle.leb128.proofs.minus.Goals as goal
 
 pub overflow_sub-result : goal.overflow_sub-result

@@ -1,5 +1,4 @@
 -- src/lib.rt:140:13
-use borrow.Author.Rules.{rules}
 use Rattle.leb128.proofs.Padding.{paddings}
 use Rattle.leb128.proofs.padded_unsigned.Goals as goal
 

@@ -2,7 +2,6 @@ use Prim.Native.Nat.{ℕ}
 use mathlib.Core.Path.{◌≡◌}
 use native.Mathlib.Omega.{arith}
 use Rattle.leb128.proofs.Answers.{plain_few_signed, plain_in_signed}
-use borrow.Author.Rules.{rules}
 use Rattle.leb128.proofs.plain_signed.Goals as goal
 
 pub padded_signed-requires : goal.padded_signed-requires

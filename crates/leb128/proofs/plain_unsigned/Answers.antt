@@ -2,7 +2,6 @@ use Prim.Native.Nat.{ℕ}
 use mathlib.Core.Path.{◌≡◌}
 use native.Mathlib.Omega.{arith}
 use Rattle.leb128.proofs.Answers.{plain_few, plain_in}
-use borrow.Author.Rules.{rules}
 use Rattle.leb128.proofs.plain_unsigned.Goals as goal
 
 pub returns-then-padded_unsigned : goal.returns-then-padded_unsigned

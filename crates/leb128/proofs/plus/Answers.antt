@@ -1,6 +1,5 @@
 use mir.Syntax.{w64}
 use mir.Facts.{to_z_pos}
-use borrow.Author.Rules.{rules}
 use Rattle.leb128.proofs.plus.Goals as goal
 
 pub returns : goal.returns

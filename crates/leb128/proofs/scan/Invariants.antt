@@ -1,11 +1,8 @@
-use mathlib.Core.Path.{◌≡◌, ap, ◌∙◌}
-use Prim.Native.Nat.{ℕ, suc, ◌+◌, ◌-◌, ◌*◌, ◌^◌, ◌≤◌, ◌<◌}
-use native.Mathlib.Omega.{arith}
-use borrow.Author.Rules.{rules}
-use lib.ListN.{drop, get_or}
-use lib.Pow.{pow_mono}
+use mathlib.Core.Path.{◌≡◌}
+use Prim.Native.Nat.{suc, ◌-◌, ◌*◌, ◌^◌, ◌≤◌, ◌<◌}
+use lib.ListN.{drop}
 use Rattle.leb128.specs.Number.{raw}
-use Rattle.leb128.proofs.Reading.{onto, onto_none, low_more, at_end, at_last, shl_is, turned, no_more}
+use Rattle.leb128.proofs.Reading.{onto}
 use Rattle.leb128.proofs.scan.Given as goal
 
 abbrev pub invariant-loop-i : goal.invariant-loop-i

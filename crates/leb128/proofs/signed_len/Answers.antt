@@ -9,7 +9,6 @@ use lib.Dec.{lit<}
 use Rattle.leb128.specs.Number.{short}
 use Rattle.leb128.proofs.Writing.{short_length}
 use Rattle.leb128.proofs.Length.{length_double}
-use borrow.Author.Rules.{rules}
 use Rattle.leb128.proofs.signed_len.Goals as goal
 
 pub returns : goal.returns

@@ -1,5 +1,5 @@
 use mathlib.Core.Path.{ap, ◌∙◌, subst}
-use Prim.Native.Nat.{◌-◌, ◌≤◌}
+use Prim.Native.Nat.{◌≤◌}
 use native.Mathlib.Omega.{arith}
 use lib.IntN.{pos, negsuc}
 use lib.Pow.{pow_mono}
@@ -7,7 +7,6 @@ use mir.Syntax.{w64}
 use mir.Facts.{to_z-of_z}
 use Rattle.leb128.specs.Inner.{Held}
 use Rattle.leb128.proofs.Reading.{signed_pos, signed_neg}
-use borrow.Author.Rules.{rules}
 use Rattle.leb128.proofs.whole_signed.Goals as goal
 
 pub plus-requires : goal.plus-requires

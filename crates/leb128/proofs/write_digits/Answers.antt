@@ -1,10 +1,6 @@
-use mathlib.Core.Path.{◌≡◌, refl, ◌∙◌}
-use Prim.Native.Nat.{◌+◌}
+use mathlib.Core.Path.{refl, ◌∙◌}
 use native.Mathlib.Omega.{arith}
-use borrow.Author.Rules.{rules}
-use lib.ListN.{length, length-set}
-use lib.Seq.{sets}
-use Rattle.leb128.specs.Number.{short}
+use lib.ListN.{length-set}
 use Rattle.leb128.proofs.Writing.{short_some, sets_more, length_more, sets_end, length_end}
 use Rattle.leb128.proofs.write_digits.Goals as goal
 

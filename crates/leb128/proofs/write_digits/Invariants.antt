@@ -1,11 +1,8 @@
-use mathlib.Core.Path.{◌≡◌, refl, ◌∙◌}
+use mathlib.Core.Path.{◌≡◌}
 use Prim.Native.Nat.{◌+◌}
-use native.Mathlib.Omega.{arith}
-use borrow.Author.Rules.{rules}
-use lib.ListN.{length, length-set}
+use lib.ListN.{length}
 use lib.Seq.{sets}
 use Rattle.leb128.specs.Number.{short}
-use Rattle.leb128.proofs.Writing.{short_some, sets_more, length_more, sets_end, length_end}
 use Rattle.leb128.proofs.write_digits.Given as goal
 
 abbrev pub invariant-loop-m : goal.invariant-loop-m

@@ -1,6 +1,4 @@
-use Prim.Native.Nat.{◌-◌}
-use lib.ListN.{length}
-use Rattle.records.proofs.Identifier.{Copied, copies}
+use Rattle.records.proofs.Identifier.{copies}
 use Rattle.records.proofs.put_identifier.Goals as goal
 
 pub loop-i-init : goal.loop-i-init

@@ -1,6 +1,6 @@
 use Prim.Native.Nat.{◌-◌}
 use lib.ListN.{length}
-use Rattle.records.proofs.Identifier.{Copied, copies}
+use Rattle.records.proofs.Identifier.{Copied}
 use Rattle.records.proofs.put_identifier.Given as goal
 
 abbrev pub invariant-loop-i : goal.invariant-loop-i

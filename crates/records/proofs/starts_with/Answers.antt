@@ -1,6 +1,4 @@
-use Prim.Native.Nat.{◌-◌}
-use lib.ListN.{length}
-use Rattle.records.proofs.Identifier.{Matched, matches}
+use Rattle.records.proofs.Identifier.{matches}
 use Rattle.records.proofs.starts_with.Goals as goal
 
 pub returns-then-s-identifier : goal.returns-then-s-identifier

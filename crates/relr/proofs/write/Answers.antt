@@ -1,5 +1,4 @@
 use Rattle.relr_table.specs.Contract.Laws.{writing}
-use borrow.Author.Rules.{rules}
 use Rattle.relr.proofs.write.Goals as goal
 
 pub returns-in_default : goal.returns-in_default

@@ -1,5 +1,4 @@
 use Rattle.relr_apply.proofs.StripNeeds.{entries}
-use Rattle.std.proofs.Common.{rules}
 use Rattle.relr_apply.proofs.add_entry.Goals as goal
 
 pub load-v-requires : goal.load-v-requires

@@ -1,5 +1,4 @@
-use Rattle.std.proofs.Common.{◌-◌}
-use Rattle.relr_apply.proofs.StripNeeds.{Along, alongs}
+use Rattle.relr_apply.proofs.StripNeeds.{alongs}
 use Rattle.relr_apply.proofs.add_strip.Goals as goal
 
 pub bytes-c-requires : goal.bytes-c-requires

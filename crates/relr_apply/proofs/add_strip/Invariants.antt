@@ -1,5 +1,5 @@
 use Rattle.std.proofs.Common.{◌-◌}
-use Rattle.relr_apply.proofs.StripNeeds.{Along, alongs}
+use Rattle.relr_apply.proofs.StripNeeds.{Along}
 use Rattle.relr_apply.proofs.add_strip.Given as goal
 
 abbrev pub invariant-loop-j : goal.invariant-loop-j

@@ -1,5 +1,4 @@
-use Rattle.std.proofs.Common.{◌-◌}
-use Rattle.relr_apply.proofs.StripNeeds.{Filling, fillings}
+use Rattle.relr_apply.proofs.StripNeeds.{fillings}
 use Rattle.relr_apply.proofs.fill_strips.Goals as goal
 
 pub bytes-c-requires : goal.bytes-c-requires

@@ -1,5 +1,5 @@
 use Rattle.std.proofs.Common.{◌-◌}
-use Rattle.relr_apply.proofs.StripNeeds.{Filling, fillings}
+use Rattle.relr_apply.proofs.StripNeeds.{Filling}
 use Rattle.relr_apply.proofs.fill_strips.Given as goal
 
 abbrev pub invariant-loop-e : goal.invariant-loop-e

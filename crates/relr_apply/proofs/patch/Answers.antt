@@ -1,5 +1,4 @@
-use Rattle.std.proofs.Common.{◌-◌, length}
-use Rattle.relr_apply.proofs.PassNeeds.{Working, workings, working_one, working_more, working_end}
+use Rattle.relr_apply.proofs.PassNeeds.{workings, working_one, working_more, working_end}
 use Rattle.relr_apply.proofs.patch.Goals as goal
 
 pub bytes-c-requires : goal.bytes-c-requires

@@ -1,5 +1,5 @@
 use Rattle.std.proofs.Common.{◌-◌, length}
-use Rattle.relr_apply.proofs.PassNeeds.{Working, workings, working_one, working_more, working_end}
+use Rattle.relr_apply.proofs.PassNeeds.{Working}
 use Rattle.relr_apply.proofs.patch.Given as goal
 
 abbrev pub invariant-loop-at : goal.invariant-loop-at

@@ -1,5 +1,4 @@
 use Rattle.relr_apply.proofs.PassNeeds.{bitmaps}
-use Rattle.std.proofs.Common.{rules}
 use Rattle.relr_apply.proofs.patch_bitmap.Goals as goal
 
 pub patch_run-requires : goal.patch_run-requires

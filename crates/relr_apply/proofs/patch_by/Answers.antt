@@ -1,5 +1,4 @@
 use Rattle.relr_apply.proofs.PassNeeds.{classes}
-use Rattle.std.proofs.Common.{rules}
 use Rattle.relr_apply.proofs.patch_by.Goals as goal
 
 pub patch-requires : goal.patch-requires

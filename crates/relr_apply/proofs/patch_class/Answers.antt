@@ -1,5 +1,4 @@
 use Rattle.relr_apply.proofs.PassNeeds.{classes}
-use Rattle.std.proofs.Common.{rules}
 use Rattle.relr_apply.proofs.patch_class.Goals as goal
 
 pub patch_by-requires : goal.patch_by-requires

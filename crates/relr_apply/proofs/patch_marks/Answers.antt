@@ -1,4 +1,4 @@
-use Rattle.relr_apply.proofs.PassNeeds.{Patching, patchings}
+use Rattle.relr_apply.proofs.PassNeeds.{patchings}
 use Rattle.relr_apply.proofs.patch_marks.Goals as goal
 
 pub loop-bits-init : goal.loop-bits-init

@@ -1,4 +1,4 @@
-use Rattle.relr_apply.proofs.PassNeeds.{Patching, patchings}
+use Rattle.relr_apply.proofs.PassNeeds.{Patching}
 use Rattle.relr_apply.proofs.patch_marks.Given as goal
 
 abbrev pub invariant-loop-bits : goal.invariant-loop-bits

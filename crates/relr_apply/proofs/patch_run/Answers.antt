@@ -1,5 +1,4 @@
-use Rattle.std.proofs.Common.{◌-◌}
-use Rattle.relr_apply.proofs.PassNeeds.{Running, runnings}
+use Rattle.relr_apply.proofs.PassNeeds.{runnings}
 use Rattle.relr_apply.proofs.patch_run.Goals as goal
 
 pub loop-j-init : goal.loop-j-init

@@ -1,5 +1,5 @@
 use Rattle.std.proofs.Common.{◌-◌}
-use Rattle.relr_apply.proofs.PassNeeds.{Running, runnings}
+use Rattle.relr_apply.proofs.PassNeeds.{Running}
 use Rattle.relr_apply.proofs.patch_run.Given as goal
 
 abbrev pub invariant-loop-j : goal.invariant-loop-j

@@ -1,5 +1,5 @@
-use Rattle.std.proofs.Common.{◌-◌, ⊎_elim, rules}
-use Rattle.relr_apply.proofs.StripNeeds.{Rolling, rollings, roll_done, roll_more}
+use Rattle.std.proofs.Common.{◌-◌}
+use Rattle.relr_apply.proofs.StripNeeds.{Rolling}
 use Rattle.relr_apply.proofs.patch_window.Given as goal
 
 abbrev pub invariant-loop-j : goal.invariant-loop-j

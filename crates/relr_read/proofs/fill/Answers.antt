@@ -1,5 +1,4 @@
-use Rattle.std.proofs.Common.{◌-◌, length}
-use Rattle.relr_read.proofs.PassNeeds.{Reading, readings}
+use Rattle.relr_read.proofs.PassNeeds.{readings}
 use Rattle.relr_read.proofs.fill.Goals as goal
 
 pub bytes-c-requires : goal.bytes-c-requires

@@ -1,5 +1,5 @@
 use Rattle.std.proofs.Common.{◌-◌, length}
-use Rattle.relr_read.proofs.PassNeeds.{Reading, readings}
+use Rattle.relr_read.proofs.PassNeeds.{Reading}
 use Rattle.relr_read.proofs.fill.Given as goal
 
 abbrev pub invariant-loop-at : goal.invariant-loop-at

@@ -1,4 +1,4 @@
-use Rattle.relr_read.proofs.PassNeeds.{Filling, markings}
+use Rattle.relr_read.proofs.PassNeeds.{markings}
 use Rattle.relr_read.proofs.fill_marks.Goals as goal
 
 pub loop-bits-init : goal.loop-bits-init

@@ -1,4 +1,4 @@
-use Rattle.relr_read.proofs.PassNeeds.{Filling, markings}
+use Rattle.relr_read.proofs.PassNeeds.{Filling}
 use Rattle.relr_read.proofs.fill_marks.Given as goal
 
 abbrev pub invariant-loop-bits : goal.invariant-loop-bits

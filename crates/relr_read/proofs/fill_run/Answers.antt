@@ -1,5 +1,4 @@
-use Rattle.std.proofs.Common.{◌-◌}
-use Rattle.relr_read.proofs.PassNeeds.{Running, runnings}
+use Rattle.relr_read.proofs.PassNeeds.{runnings}
 use Rattle.relr_read.proofs.fill_run.Goals as goal
 
 pub window-n-requires : goal.window-n-requires

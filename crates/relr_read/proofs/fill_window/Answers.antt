@@ -1,5 +1,4 @@
-use Rattle.std.proofs.Common.{◌-◌}
-use Rattle.relr_read.proofs.PassNeeds.{Spreading, spreadings}
+use Rattle.relr_read.proofs.PassNeeds.{spreadings}
 use Rattle.relr_read.proofs.fill_window.Goals as goal
 
 pub window-window-requires : goal.window-window-requires

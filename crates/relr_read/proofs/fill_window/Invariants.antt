@@ -1,5 +1,5 @@
 use Rattle.std.proofs.Common.{◌-◌}
-use Rattle.relr_read.proofs.PassNeeds.{Spreading, spreadings}
+use Rattle.relr_read.proofs.PassNeeds.{Spreading}
 use Rattle.relr_read.proofs.fill_window.Given as goal
 
 abbrev pub invariant-loop-j : goal.invariant-loop-j

@@ -1,5 +1,4 @@
 use Rattle.relr_read.proofs.PassNeeds.{reads}
-use Rattle.std.proofs.Common.{rules}
 use Rattle.relr_read.proofs.read_class.Goals as goal
 
 pub returns-then-offsets-n : goal.returns-then-offsets-n

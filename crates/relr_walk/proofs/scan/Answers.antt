@@ -1,8 +1,5 @@
 use borrow.Author.Rules.{rules}
-use Prim.Native.Nat.{◌-◌}
-use lib.ListN.{length}
-use Rattle.relr_walk.specs.Inner.{Scanned}
-use Rattle.relr_walk.proofs.PassNeeds.{Walking, scans, scan_fetch, scan_less, scan_one, walk_begin, walk_count, walk_set, walk_done}
+use Rattle.relr_walk.proofs.PassNeeds.{scans, scan_fetch, scan_less, scan_one, walk_begin, walk_count, walk_set, walk_done}
 use Rattle.relr_table.proofs.SetBits.{zeros_far}
 use Rattle.relr_walk.proofs.scan.Goals as goal
 

@@ -1,9 +1,7 @@
-use borrow.Author.Rules.{rules}
 use Prim.Native.Nat.{◌-◌}
 use lib.ListN.{length}
 use Rattle.relr_walk.specs.Inner.{Scanned}
-use Rattle.relr_walk.proofs.PassNeeds.{Walking, scans, scan_fetch, scan_less, scan_one, walk_begin, walk_count, walk_set, walk_done}
-use Rattle.relr_table.proofs.SetBits.{zeros_far}
+use Rattle.relr_walk.proofs.PassNeeds.{Walking}
 use Rattle.relr_walk.proofs.scan.Given as goal
 
 abbrev pub invariant-loop-bits : goal.invariant-loop-bits

@@ -1,5 +1,4 @@
 use Rattle.relr_write.proofs.EntryNeeds.{faults}
-use Rattle.std.proofs.Common.{rules}
 use Rattle.relr_write.proofs.faulty.Goals as goal
 
 pub returns-then-x-eq1 : goal.returns-then-x-eq1

@@ -1,5 +1,4 @@
 use Rattle.relr_write.proofs.PassNeeds.{leavings}
-use Rattle.std.proofs.Common.{rules}
 use Rattle.relr_write.proofs.fill.Goals as goal
 
 pub put_word-requires : goal.put_word-requires

@@ -1,6 +1,4 @@
-use Rattle.std.proofs.Common.{◌+◌, ◌-◌, ◌*◌, length}
-use Rattle.relr_write.specs.Inner.{end_of}
-use Rattle.relr_write.proofs.PassNeeds.{Putting, puttings}
+use Rattle.relr_write.proofs.PassNeeds.{puttings}
 use Rattle.relr_write.proofs.put.Goals as goal
 
 pub loop-i-init : goal.loop-i-init

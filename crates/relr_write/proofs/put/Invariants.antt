@@ -1,6 +1,6 @@
 use Rattle.std.proofs.Common.{◌+◌, ◌-◌, ◌*◌, length}
 use Rattle.relr_write.specs.Inner.{end_of}
-use Rattle.relr_write.proofs.PassNeeds.{Putting, puttings}
+use Rattle.relr_write.proofs.PassNeeds.{Putting}
 use Rattle.relr_write.proofs.put.Given as goal
 
 abbrev pub invariant-loop-i : goal.invariant-loop-i

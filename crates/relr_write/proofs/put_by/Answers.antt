@@ -1,5 +1,4 @@
 use Rattle.relr_write.proofs.PassNeeds.{names}
-use Rattle.std.proofs.Common.{rules}
 use Rattle.relr_write.proofs.put_by.Goals as goal
 
 pub put-requires : goal.put-requires

@@ -1,5 +1,4 @@
 use Rattle.relr_write.proofs.PassNeeds.{stores}
-use Rattle.std.proofs.Common.{rules}
 use Rattle.relr_write.proofs.put_word.Goals as goal
 
 pub returns : goal.returns

@@ -1,5 +1,4 @@
-use Rattle.std.proofs.Common.{◌+◌, ◌-◌, ◌*◌, ◌≤◌, length}
-use Rattle.relr_write.proofs.PassNeeds.{Sizing, sizings}
+use Rattle.relr_write.proofs.PassNeeds.{sizings}
 use Rattle.relr_write.proofs.size.Goals as goal
 
 pub loop-i-init : goal.loop-i-init

@@ -1,5 +1,5 @@
 use Rattle.std.proofs.Common.{◌+◌, ◌-◌, ◌*◌, ◌≤◌, length}
-use Rattle.relr_write.proofs.PassNeeds.{Sizing, sizings}
+use Rattle.relr_write.proofs.PassNeeds.{Sizing}
 use Rattle.relr_write.proofs.size.Given as goal
 
 abbrev pub invariant-loop-i : goal.invariant-loop-i

@@ -1,5 +1,4 @@
 use Rattle.relr_write.proofs.PassNeeds.{writes}
-use Rattle.std.proofs.Common.{rules}
 use Rattle.relr_write.proofs.write_class.Goals as goal
 
 pub returns-then-table-need : goal.returns-then-table-need

@@ -1,4 +1,3 @@
-use Rattle.std.proofs.Common.{rules}
 use Rattle.wrap.proofs.Words.{sums}
 use Rattle.wrap.proofs.add_signed.Goals as goal
 

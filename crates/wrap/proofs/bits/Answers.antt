@@ -1,4 +1,3 @@
-use Rattle.std.proofs.Common.{rules}
 use Rattle.wrap.proofs.Words.{wording}
 use Rattle.wrap.proofs.bits.Goals as goal
 

@@ -1,4 +1,3 @@
-use Rattle.std.proofs.Common.{rules}
 use Rattle.wrap.proofs.Words.{tests}
 use Rattle.wrap.proofs.fits_signed.Goals as goal
 

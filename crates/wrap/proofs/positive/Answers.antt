@@ -1,4 +1,3 @@
-use Rattle.std.proofs.Common.{rules}
 use Rattle.wrap.proofs.Words.{signing}
 use Rattle.wrap.proofs.positive.Goals as goal
 

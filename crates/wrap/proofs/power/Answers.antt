@@ -1,4 +1,3 @@
-use Rattle.std.proofs.Common.{rules}
 use Rattle.wrap.proofs.Words.{words}
 use Rattle.wrap.proofs.power.Goals as goal
 

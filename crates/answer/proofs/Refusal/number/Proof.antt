@@ -2,8 +2,6 @@ use borrow.Author.Rules.{rules}
 use Rattle.answer.proofs.Numbers.{numbers}
 use Rattle.answer.proofs.Refusal.number.Statement.{statement}
 use Rattle.answer.proofs.Refusal.number.Tie as tie
-use Rattle.answer.proofs.Refusal.number.Reads as reads
-use Rattle.answer.proofs.Refusal.number.Lts as lts
 
 pub number_spec : {M : Type 1} → statement M
 number_spec =

@@ -1,4 +1,3 @@
-use borrow.Author.Rules.{rules}
 use Rattle.leb128.proofs.Signed.cause.Goals as goal
 
 pub returns-in-Refused : goal.returns-in-Refused

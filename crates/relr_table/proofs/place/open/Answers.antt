@@ -1,5 +1,4 @@
 use Rattle.relr_table.proofs.PlaceNeeds.{opening}
-use borrow.Author.Rules.{rules}
 use Rattle.relr_table.proofs.place.open.Goals as goal
 
 pub returns-then-x-eq0 : goal.returns-then-x-eq0

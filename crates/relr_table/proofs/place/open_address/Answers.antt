@@ -1,5 +1,4 @@
 use Rattle.relr_table.proofs.PlaceNeeds.{opening}
-use borrow.Author.Rules.{rules}
 use Rattle.relr_table.proofs.place.open_address.Goals as goal
 
 pub returns-then-last-x : goal.returns-then-last-x

@@ -1,6 +1,4 @@
-use lib.ListN.{length}
-use Prim.Native.Nat.{◌-◌}
-use Rattle.relr_walk.proofs.SkimNeeds.{Skimming, skims}
+use Rattle.relr_walk.proofs.SkimNeeds.{skims}
 use Rattle.relr_walk.proofs.skim.pass.Goals as goal
 
 pub bytes-c-requires : goal.bytes-c-requires

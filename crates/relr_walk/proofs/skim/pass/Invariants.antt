@@ -1,6 +1,6 @@
 use lib.ListN.{length}
 use Prim.Native.Nat.{◌-◌}
-use Rattle.relr_walk.proofs.SkimNeeds.{Skimming, skims}
+use Rattle.relr_walk.proofs.SkimNeeds.{Skimming}
 use Rattle.relr_walk.proofs.skim.pass.Given as goal
 
 abbrev pub invariant-loop-at : goal.invariant-loop-at

@@ -1,5 +1,4 @@
 use Rattle.relr_write.proofs.EntryNeeds.{locating}
-use Rattle.std.proofs.Common.{rules}
 use Rattle.relr_write.proofs.packer.bit.Goals as goal
 
 pub returns : goal.returns

@@ -1,5 +1,4 @@
 use Rattle.relr_write.proofs.EntryNeeds.{packing}
-use Rattle.std.proofs.Common.{rules}
 use Rattle.relr_write.proofs.packer.pack.Goals as goal
 
 pub bit-requires : goal.bit-requires

@@ -1,5 +1,4 @@
 use Rattle.word.proofs.ClassNeeds.{words}
-use Rattle.std.proofs.Common.{rules}
 use Rattle.word.proofs.Class.in_words.Goals as goal
 
 pub nonzero_div-result : goal.nonzero_div-result

@@ -1,5 +1,4 @@
 use Rattle.word.proofs.ClassNeeds.{sizes}
-use Rattle.std.proofs.Common.{rules}
 use Rattle.word.proofs.Class.last.Goals as goal
 
 pub overflow_sub-result : goal.overflow_sub-result

@@ -1,5 +1,4 @@
 use Rattle.word.proofs.ClassNeeds.{sizes}
-use Rattle.std.proofs.Common.{rules}
 use Rattle.word.proofs.Class.rest.Goals as goal
 
 pub nonzero_rem-result : goal.nonzero_rem-result

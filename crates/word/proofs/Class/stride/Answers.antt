@@ -1,5 +1,4 @@
 use Rattle.word.proofs.ClassNeeds.{sizes}
-use Rattle.std.proofs.Common.{rules}
 use Rattle.word.proofs.Class.stride.Goals as goal
 
 pub overflow_mul-result : goal.overflow_mul-result
