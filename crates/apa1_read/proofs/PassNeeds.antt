@@ -8,7 +8,7 @@ use native.Mathlib.Omega.{arith}
 use lib.IntN.{ℤ, pos}
 use lib.ListN.{length, set}
 use mir.Syntax.{w64}
-use mir.Val.{to_z, of_z, Fits}
+use mir.Val.{Fits}
 use borrow.Author.Rules.{rules, scaled_Fits}
 use Rattle.answer.specs.declared.Refusal.{Refusal}
 use Rattle.answer.specs.declared.Refusal.TheVariants.{Limit, Trailing}

@@ -25,7 +25,7 @@ use Rattle.records.specs.Reading.{one}
 use Rattle.records.proofs.Converse.{Verbatim, forth_counted}
 use Rattle.wrap.specs.Wrap.{residue, wrapped}
 use Rattle.wrap.specs.Wrap.Laws.{residue_lt, residue_small, residue_wrapped, forth_wrapped}
-use Rattle.apa1_table.specs.Table.{Row, row, start, identifier, second_of, first_of, step_at, plain, count_of, head_at, parse, decode, rows, entry_bytes, put_of, behind, head_of, build, encode}
+use Rattle.apa1_table.specs.Table.{Row, row, start, identifier, second_of, first_of, step_at, plain, count_of, head_at, decode, rows, entry_bytes, put_of, behind, head_of, build, encode}
 use Rattle.apa1_table.specs.Table.Laws.{parse_is, decode_accepted, build_is, encode_in, head_bytes, entry_bytes_law}
 use Rattle.apa1_table.specs.Contract.{offset_of, addend_of}
 

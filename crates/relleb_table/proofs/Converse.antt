@@ -26,7 +26,7 @@ use Rattle.records.specs.Reading.{one, none}
 use Rattle.records.proofs.Converse.{Verbatim, forth_counted}
 use Rattle.wrap.specs.Wrap.{residue, wrapped, same}
 use Rattle.wrap.specs.Wrap.Laws.{residue_lt, residue_small, residue_wrapped, wrapped_range, forth_unsigned, forth_wrapped, forth_none, same_true, same_self}
-use Rattle.relleb_table.specs.Table.{Row, row, State, state, start, behind, no_change, with_addend, with_symbol, with_type, with_offset, step_at, parse, decode, rows, field_of, change_bytes, entry_bytes, put_of, build, encode}
+use Rattle.relleb_table.specs.Table.{Row, row, State, state, start, behind, no_change, with_addend, with_symbol, with_type, with_offset, step_at, decode, rows, field_of, change_bytes, entry_bytes, put_of, build, encode}
 use Rattle.relleb_table.specs.Table.Laws.{parse_is, decode_accepted, entry_is, field_is, field_bytes_law, build_is, encode_in}
 use Rattle.relleb_table.specs.Contract.{offset_of, type_of, symbol_of, addend_of}
 use Rattle.relleb_table.proofs.RoundTrip.{put_is, Ranged}

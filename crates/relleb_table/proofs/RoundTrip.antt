@@ -12,7 +12,7 @@ use lib.Pow.{pow_pos}
 use lib.Signed.{mag}
 use borrow.Author.Tests.{lt-ltb, ltb-true}
 use Rattle.answer.specs.Limits.{list_most, list_small}
-use Rattle.answer.specs.Outcome.{Outcome, accepted, input_limit, list_limit}
+use Rattle.answer.specs.Outcome.{accepted, input_limit, list_limit}
 use Rattle.answer.specs.Outcome.Laws.{Accepts}
 use Rattle.answer.specs.Outcome.Laws as Outcome
 use Rattle.leb128.specs.Number.{IsWidth, read_unsigned, read_signed, short_unsigned, is_neg, short_signed}

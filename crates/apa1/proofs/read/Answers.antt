@@ -1,4 +1,3 @@
-use borrow.Author.Rules.{rules}
 use Rattle.apa1_table.specs.Contract.Laws.{reading}
 use Rattle.apa1.proofs.read.Goals as goal
 

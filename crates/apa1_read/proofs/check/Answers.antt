@@ -1,5 +1,4 @@
 use Rattle.answer.specs.Outcome.{input_limit}
-use borrow.Author.Rules.{rules}
 use Rattle.apa1_read.proofs.PassNeeds.{checks}
 use Rattle.apa1_read.proofs.check.Goals as goal
 

@@ -1,5 +1,4 @@
 -- src/lib.rt:71:9
-use borrow.Author.Rules.{rules}
 use Rattle.apa1_read.proofs.EntryNeeds.{counts}
 use Rattle.apa1_read.proofs.count_at.Goals as goal
 

@@ -1,6 +1,5 @@
 use native.Mathlib.Omega.{arith}
 use Rattle.apa1_read.proofs.EntryNeeds.{record_ends}
-use borrow.Author.Rules.{rules}
 use Rattle.apa1_read.proofs.end_at.Goals as goal
 
 pub returns-then-next-lt1 : goal.returns-then-next-lt1

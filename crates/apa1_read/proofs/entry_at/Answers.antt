@@ -1,4 +1,3 @@
-use borrow.Author.Rules.{rules}
 use Rattle.apa1_read.proofs.EntryNeeds.{entries}
 use Rattle.apa1_read.proofs.entry_at.Goals as goal
 

@@ -1,4 +1,3 @@
-use borrow.Author.Rules.{rules}
 use Rattle.apa1_read.proofs.PassNeeds.{fills}
 use Rattle.apa1_read.proofs.fill.Goals as goal
 

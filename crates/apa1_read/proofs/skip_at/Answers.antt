@@ -1,4 +1,3 @@
-use borrow.Author.Rules.{rules}
 use Rattle.apa1_read.proofs.skip_at.Goals as goal
 
 pub returns-then-past-gt0 : goal.returns-then-past-gt0

@@ -1,5 +1,4 @@
-use mathlib.Core.Bool.{false}
-use Rattle.apa1_read.proofs.PassNeeds.{Storing, stores}
+use Rattle.apa1_read.proofs.PassNeeds.{stores}
 use Rattle.apa1_read.proofs.store.Goals as goal
 
 pub loop-rest-init : goal.loop-rest-init

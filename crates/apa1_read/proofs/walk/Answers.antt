@@ -1,4 +1,4 @@
-use Rattle.apa1_read.proofs.PassNeeds.{Walking, walks}
+use Rattle.apa1_read.proofs.PassNeeds.{walks}
 use Rattle.apa1_read.proofs.walk.Goals as goal
 
 pub loop-left-init : goal.loop-left-init

@@ -1,4 +1,4 @@
-use Rattle.apa1_read.proofs.PassNeeds.{Walking, walks}
+use Rattle.apa1_read.proofs.PassNeeds.{Walking}
 use Rattle.apa1_read.proofs.walk.Given as goal
 
 abbrev pub invariant-loop-left : goal.invariant-loop-left

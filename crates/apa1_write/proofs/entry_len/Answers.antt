@@ -1,4 +1,3 @@
-use borrow.Author.Rules.{rules}
 use Rattle.apa1_write.proofs.EntryNeeds.{lengths}
 use Rattle.apa1_write.proofs.entry_len.Goals as goal
 

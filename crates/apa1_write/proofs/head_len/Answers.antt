@@ -1,4 +1,3 @@
-use borrow.Author.Rules.{rules}
 use Rattle.apa1_write.proofs.EntryNeeds.{headings}
 use Rattle.apa1_write.proofs.head_len.Goals as goal
 

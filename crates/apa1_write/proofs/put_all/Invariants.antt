@@ -1,6 +1,6 @@
 use Prim.Native.Nat.{◌-◌}
 use lib.ListN.{length}
-use Rattle.apa1_write.proofs.PassNeeds.{Filling, puttings}
+use Rattle.apa1_write.proofs.PassNeeds.{Filling}
 use Rattle.apa1_write.proofs.put_all.Given as goal
 
 abbrev pub invariant-loop-j : goal.invariant-loop-j

@@ -1,4 +1,3 @@
-use borrow.Author.Rules.{rules}
 use Rattle.apa1_write.proofs.EntryNeeds.{puttings}
 use Rattle.apa1_write.proofs.put_entry.Goals as goal
 

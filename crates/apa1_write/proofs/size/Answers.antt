@@ -1,6 +1,4 @@
-use Prim.Native.Nat.{◌-◌}
-use lib.ListN.{length}
-use Rattle.apa1_write.proofs.PassNeeds.{Sizing, sizes}
+use Rattle.apa1_write.proofs.PassNeeds.{sizes}
 use Rattle.apa1_write.proofs.size.Goals as goal
 
 pub head_len-total-requires : goal.head_len-total-requires

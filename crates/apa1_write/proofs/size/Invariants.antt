@@ -1,6 +1,6 @@
 use Prim.Native.Nat.{◌-◌}
 use lib.ListN.{length}
-use Rattle.apa1_write.proofs.PassNeeds.{Sizing, sizes}
+use Rattle.apa1_write.proofs.PassNeeds.{Sizing}
 use Rattle.apa1_write.proofs.size.Given as goal
 
 abbrev pub invariant-loop-i : goal.invariant-loop-i

@@ -1,5 +1,4 @@
 use Rattle.apr1_write.proofs.PassNeeds.{writes}
-use borrow.Author.Rules.{rules}
 use Rattle.apr1.proofs.write.Goals as goal
 
 pub returns-then-table-need : goal.returns-then-table-need

@@ -1,4 +1,3 @@
-use borrow.Author.Rules.{rules}
 use Rattle.relleb_table.specs.Contract.Laws.{writing}
 use Rattle.relleb.proofs.write.Goals as goal
 

@@ -1,6 +1,5 @@
 use native.Mathlib.Omega.{arith}
 use Rattle.relleb_read.proofs.EntryNeeds.{record_ends}
-use borrow.Author.Rules.{rules}
 use Rattle.relleb_read.proofs.end_at.Goals as goal
 
 pub returns-then-kind_at-lt1 : goal.returns-then-kind_at-lt1

@@ -2,7 +2,6 @@ use mathlib.Core.Path.{subst}
 use native.Mathlib.Omega.{arith}
 use Rattle.leb128.specs.Inner.{EndsSigned}
 use Rattle.relleb_read.proofs.EntryNeeds.{symbol_ends, symbol_goes}
-use borrow.Author.Rules.{rules}
 use Rattle.relleb_read.proofs.end_symbol.Goals as goal
 
 pub returns-in-Positive : goal.returns-in-Positive

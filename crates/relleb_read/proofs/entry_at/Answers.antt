@@ -1,4 +1,3 @@
-use borrow.Author.Rules.{rules}
 use Rattle.relleb_read.proofs.EntryNeeds.{offsets}
 use Rattle.relleb_read.proofs.entry_at.Goals as goal
 

@@ -1,4 +1,3 @@
-use borrow.Author.Rules.{rules}
 use Rattle.relleb_read.proofs.PassNeeds.{fills}
 use Rattle.relleb_read.proofs.fill.Goals as goal
 

@@ -1,5 +1,4 @@
 -- src/lib.rt:134:9
-use borrow.Author.Rules.{rules}
 use Rattle.relleb_read.proofs.EntryNeeds.{changes}
 use Rattle.relleb_read.proofs.no_change.Goals as goal
 

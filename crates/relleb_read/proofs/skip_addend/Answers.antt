@@ -1,5 +1,4 @@
 -- src/lib.rt:144:9
-use borrow.Author.Rules.{rules}
 use Rattle.relleb_read.proofs.EntryNeeds.{changes}
 use Rattle.relleb_read.proofs.skip_addend.Goals as goal
 

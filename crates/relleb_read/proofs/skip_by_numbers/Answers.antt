@@ -1,4 +1,3 @@
-use borrow.Author.Rules.{rules}
 use Rattle.relleb_read.proofs.EntryNeeds.{skips}
 use Rattle.relleb_read.proofs.skip_by_numbers.Goals as goal
 

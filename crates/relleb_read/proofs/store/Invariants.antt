@@ -1,5 +1,5 @@
 use mathlib.Core.Bool.{false}
-use Rattle.relleb_read.proofs.PassNeeds.{Storing, stores}
+use Rattle.relleb_read.proofs.PassNeeds.{Storing}
 use Rattle.relleb_read.proofs.store.Given as goal
 
 abbrev pub invariant-loop-rest : goal.invariant-loop-rest

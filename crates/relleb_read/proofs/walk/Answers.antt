@@ -1,4 +1,4 @@
-use Rattle.relleb_read.proofs.PassNeeds.{Walking, walks}
+use Rattle.relleb_read.proofs.PassNeeds.{walks}
 use Rattle.relleb_read.proofs.walk.Goals as goal
 
 pub loop-left-init : goal.loop-left-init

@@ -1,4 +1,4 @@
-use Rattle.relleb_read.proofs.PassNeeds.{Walking, walks}
+use Rattle.relleb_read.proofs.PassNeeds.{Walking}
 use Rattle.relleb_read.proofs.walk.Given as goal
 
 abbrev pub invariant-loop-left : goal.invariant-loop-left

@@ -1,4 +1,3 @@
-use borrow.Author.Rules.{rules}
 use Rattle.relleb_read.proofs.EntryNeeds.{addends}
 use Rattle.relleb_read.proofs.with_addend.Goals as goal
 

@@ -1,4 +1,3 @@
-use borrow.Author.Rules.{rules}
 use Rattle.relleb_read.proofs.EntryNeeds.{symbols}
 use Rattle.relleb_read.proofs.with_symbol.Goals as goal
 

@@ -1,4 +1,3 @@
-use borrow.Author.Rules.{rules}
 use Rattle.relleb_read.proofs.EntryNeeds.{types}
 use Rattle.relleb_read.proofs.with_type.Goals as goal
 

@@ -1,7 +1,6 @@
 use Prim.Native.Nat.{ℕ}
 use mathlib.Core.Path.{◌≡◌, sym, ◌∙◌}
 use native.Mathlib.Omega.{arith}
-use borrow.Author.Rules.{rules}
 use borrow.Author.Tests.{eq-eqb}
 use Rattle.answer.specs.Bytes.{bytes_of_law}
 use Rattle.relleb_read.proofs.EntryNeeds.{changes_lax, changes_past, changes_byte}

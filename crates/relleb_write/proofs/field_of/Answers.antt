@@ -1,4 +1,3 @@
-use borrow.Author.Rules.{rules}
 use Rattle.relleb_write.proofs.EntryNeeds.{symbols}
 use Rattle.relleb_write.proofs.field_of.Goals as goal
 

@@ -1,4 +1,3 @@
-use borrow.Author.Rules.{rules}
 use Rattle.relleb_write.proofs.EntryNeeds.{lengths}
 use Rattle.relleb_write.proofs.fields_len.Goals as goal
 

@@ -1,4 +1,3 @@
-use borrow.Author.Rules.{rules}
 use Rattle.relleb_write.proofs.EntryNeeds.{fields}
 use Rattle.relleb_write.proofs.fields_of.Goals as goal
 

@@ -1,4 +1,3 @@
-use borrow.Author.Rules.{rules}
 use Rattle.relleb_write.proofs.PassNeeds.{fills}
 use Rattle.relleb_write.proofs.fill.Goals as goal
 

@@ -1,6 +1,4 @@
-use Prim.Native.Nat.{◌-◌}
-use lib.ListN.{length}
-use Rattle.relleb_write.proofs.PassNeeds.{Filling, puttings}
+use Rattle.relleb_write.proofs.PassNeeds.{puttings}
 use Rattle.relleb_write.proofs.put_all.Goals as goal
 
 pub loop-j-init : goal.loop-j-init

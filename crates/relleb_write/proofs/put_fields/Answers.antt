@@ -1,4 +1,3 @@
-use borrow.Author.Rules.{rules}
 use Rattle.relleb_write.proofs.EntryNeeds.{offset_puts}
 use Rattle.relleb_write.proofs.put_fields.Goals as goal
 

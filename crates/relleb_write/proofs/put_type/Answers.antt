@@ -1,4 +1,3 @@
-use borrow.Author.Rules.{rules}
 use Rattle.relleb_write.proofs.EntryNeeds.{type_puts}
 use Rattle.relleb_write.proofs.put_type.Goals as goal
 

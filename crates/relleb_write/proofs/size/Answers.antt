@@ -1,6 +1,4 @@
-use Prim.Native.Nat.{◌-◌}
-use lib.ListN.{length}
-use Rattle.relleb_write.proofs.PassNeeds.{Sizing, sizes, size_bad}
+use Rattle.relleb_write.proofs.PassNeeds.{sizes, size_bad}
 use Rattle.relleb_write.proofs.size.Goals as goal
 
 pub unsigned_len-total-requires : goal.unsigned_len-total-requires

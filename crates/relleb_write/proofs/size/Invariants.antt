@@ -1,6 +1,6 @@
 use Prim.Native.Nat.{◌-◌}
 use lib.ListN.{length}
-use Rattle.relleb_write.proofs.PassNeeds.{Sizing, sizes, size_bad}
+use Rattle.relleb_write.proofs.PassNeeds.{Sizing}
 use Rattle.relleb_write.proofs.size.Given as goal
 
 abbrev pub invariant-loop-i : goal.invariant-loop-i
