@@ -8,9 +8,9 @@ use mathlib.Core.Bool.{Bool, true, false, cond}
 use mathlib.Core.List.{List}
 use mathlib.Core.Logic.{◌⊎◌, inl, inr}
 use mathlib.Core.Path.{◌≡◌, refl, sym, ap, ◌∙◌, subst}
-use Prim.Native.Nat.{ℕ, ◌+◌, ◌%◌, ◌^◌}
+use Prim.Native.Nat.{ℕ}
 use lib.Dec.{leb, eqb}
-use lib.IntN.{ℤ, pos, negsuc, ◌+ℤ◌}
+use lib.IntN.{ℤ, pos, negsuc}
 use lib.ListN.{length}
 use Rattle.answer.specs.declared.Answer.{Answer}
 use Rattle.answer.specs.declared.Refusal.{Refusal}
@@ -31,7 +31,7 @@ use Rattle.word.specs.declared.Size.{Size}
 use Rattle.word.specs.declared.Named.TheVariants.{Is, Unknown}
 use Rattle.word.specs.Class.{width_of, class_of, in_class}
 use Rattle.records.specs.Identifier.{starts_with}
-use Rattle.records.specs.Reading.{none, records}
+use Rattle.records.specs.Reading.{none}
 use Rattle.records.proofs.Unless.{unless_records, unless_counted}
 use Rattle.apr1_table.specs.Table as apr1
 use Rattle.apr1_table.specs.Table.Setting as apr1-setting

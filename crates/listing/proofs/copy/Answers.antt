@@ -1,5 +1,4 @@
-use Prim.Native.Nat.{◌-◌}
-use Rattle.listing.proofs.CopyNeeds.{Copying, copies}
+use Rattle.listing.proofs.CopyNeeds.{copies}
 use Rattle.listing.proofs.copy.Goals as goal
 
 pub short_of-requires : goal.short_of-requires

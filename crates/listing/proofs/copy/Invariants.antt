@@ -1,5 +1,5 @@
 use Prim.Native.Nat.{◌-◌}
-use Rattle.listing.proofs.CopyNeeds.{Copying, copies}
+use Rattle.listing.proofs.CopyNeeds.{Copying}
 use Rattle.listing.proofs.copy.Given as goal
 
 abbrev pub invariant-loop-i : goal.invariant-loop-i

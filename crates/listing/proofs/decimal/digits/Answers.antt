@@ -1,4 +1,4 @@
-use Rattle.listing.proofs.DecimalNeeds.{Counting, counts}
+use Rattle.listing.proofs.DecimalNeeds.{counts}
 use Rattle.listing.proofs.decimal.digits.Goals as goal
 
 pub loop-rest-init : goal.loop-rest-init

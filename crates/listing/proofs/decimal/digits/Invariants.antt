@@ -1,4 +1,4 @@
-use Rattle.listing.proofs.DecimalNeeds.{Counting, counts}
+use Rattle.listing.proofs.DecimalNeeds.{Counting}
 use Rattle.listing.proofs.decimal.digits.Given as goal
 
 abbrev pub invariant-loop-rest : goal.invariant-loop-rest

@@ -1,4 +1,4 @@
-use Rattle.listing.proofs.DecimalNeeds.{Writing, writings}
+use Rattle.listing.proofs.DecimalNeeds.{writings}
 use Rattle.listing.proofs.decimal.put_number.Goals as goal
 
 pub digits-requires : goal.digits-requires

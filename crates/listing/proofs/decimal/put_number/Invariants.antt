@@ -1,4 +1,4 @@
-use Rattle.listing.proofs.DecimalNeeds.{Writing, writings}
+use Rattle.listing.proofs.DecimalNeeds.{Writing}
 use Rattle.listing.proofs.decimal.put_number.Given as goal
 
 abbrev pub invariant-loop-m : goal.invariant-loop-m

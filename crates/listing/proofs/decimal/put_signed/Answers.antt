@@ -1,5 +1,4 @@
 use Rattle.listing.proofs.DecimalNeeds.{signs}
-use borrow.Author.Rules.{rules}
 use Rattle.listing.proofs.decimal.put_signed.Goals as goal
 
 pub returns-then-is_negative : goal.returns-then-is_negative

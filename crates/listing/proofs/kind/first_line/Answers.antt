@@ -1,5 +1,4 @@
 use Rattle.listing.proofs.KindNeeds.{lines}
-use borrow.Author.Rules.{rules}
 use Rattle.listing.proofs.kind.first_line.Goals as goal
 
 pub returns-then-starts_with : goal.returns-then-starts_with

@@ -1,6 +1,4 @@
-use Prim.Native.Nat.{◌-◌}
-use lib.ListN.{length}
-use Rattle.listing.proofs.PutNeeds.{Putting, puttings}
+use Rattle.listing.proofs.PutNeeds.{puttings}
 use Rattle.listing.proofs.page.put.Goals as goal
 
 pub loop-i-init : goal.loop-i-init

@@ -1,6 +1,6 @@
 use Prim.Native.Nat.{◌-◌}
 use lib.ListN.{length}
-use Rattle.listing.proofs.PutNeeds.{Putting, puttings}
+use Rattle.listing.proofs.PutNeeds.{Putting}
 use Rattle.listing.proofs.page.put.Given as goal
 
 abbrev pub invariant-loop-i : goal.invariant-loop-i

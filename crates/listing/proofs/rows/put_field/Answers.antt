@@ -1,5 +1,4 @@
 use Rattle.listing.proofs.RowNeeds.{fields}
-use borrow.Author.Rules.{rules}
 use Rattle.listing.proofs.rows.put_field.Goals as goal
 
 pub returns-then-shown : goal.returns-then-shown

@@ -1,5 +1,4 @@
 use Rattle.listing.proofs.RowNeeds.{lists}
-use borrow.Author.Rules.{rules}
 use Rattle.listing.proofs.rows.put_list.Goals as goal
 
 pub returns : goal.returns

@@ -1,5 +1,4 @@
 use Rattle.listing.proofs.RowNeeds.{row_put}
-use borrow.Author.Rules.{rules}
 use Rattle.listing.proofs.rows.put_row.Goals as goal
 
 pub returns : goal.returns

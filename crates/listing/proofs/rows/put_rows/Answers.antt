@@ -1,5 +1,4 @@
-use Prim.Native.Nat.{◌-◌}
-use Rattle.listing.proofs.RowNeeds.{Rowing, rowings}
+use Rattle.listing.proofs.RowNeeds.{rowings}
 use Rattle.listing.proofs.rows.put_rows.Goals as goal
 
 pub loop-i-init : goal.loop-i-init

@@ -1,5 +1,5 @@
 use Prim.Native.Nat.{◌-◌}
-use Rattle.listing.proofs.RowNeeds.{Rowing, rowings}
+use Rattle.listing.proofs.RowNeeds.{Rowing}
 use Rattle.listing.proofs.rows.put_rows.Given as goal
 
 abbrev pub invariant-loop-i : goal.invariant-loop-i

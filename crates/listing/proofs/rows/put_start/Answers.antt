@@ -1,5 +1,4 @@
 use Rattle.listing.proofs.RowNeeds.{starts}
-use borrow.Author.Rules.{rules}
 use Rattle.listing.proofs.rows.put_start.Goals as goal
 
 pub returns : goal.returns

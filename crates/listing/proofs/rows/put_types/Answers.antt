@@ -1,5 +1,4 @@
 use Rattle.listing.proofs.RowNeeds.{types}
-use borrow.Author.Rules.{rules}
 use Rattle.listing.proofs.rows.put_types.Goals as goal
 
 pub returns : goal.returns

@@ -1,5 +1,4 @@
 use Rattle.listing.proofs.TableNeeds.{refusal_put}
-use borrow.Author.Rules.{rules}
 use Rattle.listing.proofs.tables.put_refusal.Goals as goal
 
 pub returns : goal.returns

@@ -1,5 +1,4 @@
 use Rattle.listing.proofs.TableNeeds.{tables}
-use borrow.Author.Rules.{rules}
 use Rattle.listing.proofs.tables.put_table.Goals as goal
 
 pub returns-then-number-ne0 : goal.returns-then-number-ne0

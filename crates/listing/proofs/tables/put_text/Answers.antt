@@ -1,5 +1,4 @@
 use Rattle.listing.proofs.TableNeeds.{texts}
-use borrow.Author.Rules.{rules}
 use Rattle.listing.proofs.tables.put_text.Goals as goal
 
 pub returns-in_default : goal.returns-in_default

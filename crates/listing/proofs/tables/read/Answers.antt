@@ -1,5 +1,4 @@
 use Rattle.listing.proofs.TableNeeds.{readings}
-use borrow.Author.Rules.{rules}
 use Rattle.listing.proofs.tables.read.Goals as goal
 
 pub returns-in-Relr32 : goal.returns-in-Relr32
