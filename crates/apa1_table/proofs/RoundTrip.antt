@@ -8,7 +8,7 @@ use native.Mathlib.Omega.{arith}
 use lib.IntN.{ℤ, pos, ◌+ℤ◌, ◌-ℤ◌}
 use lib.ListN.{length, get_or, length-append}
 use lib.Signed.{mag}
-use Rattle.answer.specs.Limits.{list_most, list_small}
+use Rattle.answer.proofs.Limits.{list_most, list_small}
 use Rattle.answer.specs.Outcome.{accepted, input_limit, list_limit}
 use Rattle.answer.specs.Outcome.Laws.{Accepts}
 use Rattle.answer.specs.Outcome.Laws as Outcome

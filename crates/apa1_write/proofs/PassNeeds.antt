@@ -14,7 +14,7 @@ use borrow.Author.Count.{below_more}
 use borrow.Author.Rules.{rules, sfits_of}
 use Rattle.answer.specs.declared.Refusal.TheVariants.{Limit}
 use Rattle.answer.specs.declared.Found.TheVariants as found
-use Rattle.answer.specs.Limits.{list_small}
+use Rattle.answer.proofs.Limits.{list_small}
 use Rattle.answer.specs.Outcome.{Outcome, list_limit, after, found_of}
 use Rattle.answer.specs.Outcome.Laws.{accepted_refused, found_refused}
 use Rattle.answer.specs.Written.{Written}

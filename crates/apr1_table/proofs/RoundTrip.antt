@@ -12,7 +12,7 @@ use lib.Dec.{eqb, leb}
 use lib.ListN.{length, drop, length-append}
 use borrow.Author.Tests.{ne_eqb, eqb-true, le-leb, lt-leb}
 use Rattle.answer.specs.declared.Refusal.TheVariants as why
-use Rattle.answer.specs.Limits.{list_most, list_small}
+use Rattle.answer.proofs.Limits.{list_most, list_small}
 use Rattle.answer.specs.Outcome.{Outcome, accepted, input_limit, list_limit, refused}
 use Rattle.answer.specs.Outcome.Laws.{accepted_refused, limited_over, limited_in, limited_accepted}
 use Rattle.leb128.specs.Number.{read_unsigned, short_unsigned}

@@ -13,7 +13,7 @@ use borrow.Author.Rules.{rules}
 use Rattle.answer.specs.declared.Answer.{Answer}
 use Rattle.answer.specs.declared.Refusal.{Refusal}
 use Rattle.answer.specs.declared.Refusal.TheVariants.{Order, Space, Limit, Empty}
-use Rattle.answer.specs.Limits.{list_small}
+use Rattle.answer.proofs.Limits.{list_small}
 use Rattle.answer.specs.Outcome.{Outcome, accepted, refused, success, refusal, no_room, list_limit, itself, found_of, Gives, filled}
 use Rattle.answer.specs.Outcome.Laws.{filled_self, found_accepted, gives_refused, gives_short, gives_full}
 use Rattle.answer.specs.Written.{Written, written_then, written_long}

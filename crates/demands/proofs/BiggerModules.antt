@@ -16,7 +16,7 @@ use Rattle.answer.specs.declared.Answer.{Answer}
 use Rattle.answer.specs.declared.Refusal.{Refusal}
 use Rattle.answer.specs.declared.Refusal.TheVariants as why
 use Rattle.answer.specs.Bytes.{Bytes}
-use Rattle.answer.specs.Limits.{input_most, list_most, list_small}
+use Rattle.answer.proofs.Limits.{input_most, list_most, list_small}
 use Rattle.answer.specs.Outcome.{Outcome, accepted, refused, input_limit, list_limit, success, refusal, no_room, answer_in, answer_of}
 use Rattle.answer.specs.Said.{Bounded, of_cond, of_accepted}
 use Rattle.records.specs.Columns.Laws.{each_at}

@@ -11,7 +11,7 @@ use lib.ListN.{length, get_or, length-append}
 use lib.Pow.{pow_pos}
 use lib.Signed.{mag}
 use borrow.Author.Tests.{lt-ltb, ltb-true}
-use Rattle.answer.specs.Limits.{list_most, list_small}
+use Rattle.answer.proofs.Limits.{list_most, list_small}
 use Rattle.answer.specs.Outcome.{accepted, input_limit, list_limit}
 use Rattle.answer.specs.Outcome.Laws.{Accepts}
 use Rattle.answer.specs.Outcome.Laws as Outcome

@@ -7,7 +7,8 @@ use Rattle.word.specs.declared.Class.{Class}
 use Rattle.word.specs.Class.{bytes_of, bits_of, window_of}
 use Rattle.word.specs.Class.Laws.{bytes_least, bytes_most, by_bytes}
 use Rattle.word.specs.Word.{word_at, with_word}
-use Rattle.word.specs.Word.Laws.{load_store, load_beside, store_length}
+use Rattle.word.specs.Word.Laws.{load_store, store_length}
+use Rattle.word.proofs.TwoWords.{load_beside}
 use Rattle.relr_table.specs.Table.{patched}
 use Rattle.relr_apply.specs.Inner.{wrapped, spots_of, low_of, addend, Filled, Summed, Added, Swept, Strip, StripAdded, Spacious}
 use Rattle.relr_table.proofs.SetBits.{Through, through_begin, through_end, through_clear, through_set}

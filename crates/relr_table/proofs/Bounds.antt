@@ -8,7 +8,7 @@ use lib.Dec.{eqb, ltb}
 use lib.ListN.{length, length-append}
 use native.Mathlib.Nat.{mul-le-mul_left, mul-le-mul_right}
 use native.Mathlib.Omega.{arith}
-use Rattle.answer.specs.Limits.{list_most}
+use Rattle.answer.proofs.Limits.{list_most}
 use Rattle.answer.specs.declared.Refusal.TheVariants.{Missing, Order, Space, Odd, Outside, Base}
 use Rattle.answer.specs.Outcome.{Outcome, accepted, refused, input_limit, list_limit}
 use Rattle.answer.specs.Said.{OfOutcome, OfList, AtMost, Bounded, of_map, of_cond, of_limited, of_after, list_of, list_map, list_limited, list_after}

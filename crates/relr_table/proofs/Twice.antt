@@ -12,7 +12,8 @@ use lib.Pow.{pow_pos}
 use Rattle.word.specs.declared.Class.{Class}
 use Rattle.word.specs.Class.{bytes_of, bits_of}
 use Rattle.word.specs.Word.{word_at, with_word, Beside}
-use Rattle.word.specs.Word.Laws.{load_store, load_beside, store_twice, store_swap}
+use Rattle.word.specs.Word.Laws.{load_store}
+use Rattle.word.proofs.TwoWords.{load_beside, store_twice, store_swap}
 use Rattle.relr_table.specs.Table.{Inside, All, indexes, added, patched, Pairwise, OneOrBeside}
 use Rattle.relr_table.proofs.Applying.{added_length}
 

@@ -17,7 +17,7 @@ use Rattle.answer.specs.declared.Refusal.TheVariants.{Limit, Missing, Space, Out
 use Rattle.answer.specs.declared.Found.{Found}
 use Rattle.answer.specs.declared.Found.TheVariants.{Count}
 use Rattle.answer.specs.declared.Found.TheVariants as found
-use Rattle.answer.specs.Limits.{input_most}
+use Rattle.answer.proofs.Limits.{input_most}
 use Rattle.answer.specs.Outcome.{Outcome, found_of, input_limit}
 use Rattle.answer.specs.Outcome.Laws.{after_refused, found_refused}
 use Rattle.word.specs.declared.Class.{Class}

@@ -12,7 +12,7 @@ use mir.Val.{Fits}
 use borrow.Author.Rules.{rules}
 use borrow.Author.Tests.{lt-ltb, ltb-true, lt-leb, le-leb, leb-true}
 use lib.Dec.{leb, ltb, lit≤}
-use Rattle.answer.specs.Limits.{input_most}
+use Rattle.answer.proofs.Limits.{input_most}
 use Rattle.word.specs.declared.Class.{Class}
 use Rattle.word.specs.Class.{bytes_of, window_of}
 use Rattle.word.specs.Class.Laws.{bytes_least, bytes_most, by_bytes, class_is}

@@ -5,7 +5,7 @@ use Rattle.answer.specs.declared.Refusal.{Refusal}
 use Rattle.answer.specs.declared.Refusal.TheVariants.{Limit}
 use Rattle.answer.specs.declared.Found.TheVariants.{Count}
 use Rattle.answer.specs.declared.Found.TheVariants as found
-use Rattle.answer.specs.Limits.{list_small}
+use Rattle.answer.proofs.Limits.{list_small}
 use Rattle.answer.specs.Outcome.{Outcome, accepted, found_of, list_limit, itself, Gives, filled}
 use Rattle.answer.specs.Outcome.Laws.{found_accepted, found_refused, found_count, buffer_more, buffer_long, filled_self, gives_not, gives_short, gives_full}
 use Rattle.answer.specs.declared.Answer.{Answer}
