@@ -1,6 +1,6 @@
 use std::io;
 
-// Five bytes by two calls, three at a time: the second call's buffer is filled in part, and keeps the rest.
+// Five bytes, three at a time: the second call fills the buffer in part, the third not at all.
 #[test]
 fn reads_until_full_or_ended(rt: HostRuntime) -> io::Result<()> {
     let mut input: &[u8] = b"abcde";
