@@ -41,9 +41,10 @@ loop-j-preserved c =
     let l = c.loop-j-test.true in
     let ce = c.bytes-c.ensures in
     let m = c.requires in
-    elim c.if-window-j-lt2.branch
-    [ then-window-j-lt2 w ↦ roll_done m g l ce (search rules) strip (search rules) (search rules)
-    | else-window-j-lt2 w ↦ roll_more m g l ce (search rules) strip (search rules) (search rules) ]
+    elim c.if-window-j-lt2.branch [
+      | then-window-j-lt2 w ↦ roll_done m g l ce (search rules) strip (search rules) (search rules)
+      | else-window-j-lt2 w ↦ roll_more m g l ce (search rules) strip (search rules) (search rules)
+    ]
 
 pub shape_of-image : goal.shape_of-image
 shape_of-image c = search rollings
