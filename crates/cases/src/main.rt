@@ -6,9 +6,9 @@ mod offsets;
 mod tables;
 mod text;
 
-fn main() {
-    leb::run();
-    offsets::run();
-    tables::run();
-    offsets::run_big();
+fn main(rt: HostRuntime) -> std::io::Result<()> {
+    leb::run(&rt)?;
+    offsets::run(&rt)?;
+    tables::run(&rt)?;
+    offsets::run_big(&rt)
 }

@@ -1,51 +1,48 @@
 // Lines of text on standard output.
-use libc::STDOUT_FILENO;
+use std::io;
+use std::io::Write;
 
-pub fn put(s: &[u8]) {
-    io::write_all(STDOUT_FILENO, s);
+pub fn put(rt: &impl Print, s: &[u8]) -> io::Result<()> {
+    io::writer(rt).write_all(s)
 }
 
-pub fn number(x: u64) {
-    io::print_decimal(STDOUT_FILENO, x);
+pub fn number(rt: &impl Print, x: u64) -> io::Result<()> {
+    print!(rt; "{x}")
 }
 
-pub fn signed(x: i64) {
+pub fn signed(rt: &impl Print, x: i64) -> io::Result<()> {
     if leb128::is_negative(x) {
-        put(b"-");
-        number(leb128::magnitude(x) + 1);
+        put(rt, b"-")?;
+        number(rt, leb128::magnitude(x) + 1)
     } else {
-        number(leb128::magnitude(x));
+        number(rt, leb128::magnitude(x))
     }
 }
 
 // A number behind a space.
-pub fn item(x: u64) {
-    put(b" ");
-    number(x);
+pub fn item(rt: &impl Print, x: u64) -> io::Result<()> {
+    put(rt, b" ")?;
+    number(rt, x)
 }
 
-fn byte(b: u8) {
-    put(b" ");
-    io::print_hex(STDOUT_FILENO, b as u64, 2);
+fn byte(rt: &impl Print, b: u8) -> io::Result<()> {
+    put(rt, b" ")?;
+    print!(rt; "{b:02x}")
 }
 
 // The bytes up to a place in hexadecimal, each behind a space.
-pub fn bytes(s: &[u8], end: usize) {
-    let mut i: usize = 0;
-    while i < s.len() {
-        if end <= i {
-            return;
-        }
-        byte(s[i]);
-        i += 1;
+pub fn bytes(rt: &impl Print, s: &[u8], end: usize) -> io::Result<()> {
+    for b in s.iter().take(end) {
+        byte(rt, *b)?;
     }
+    Ok(())
 }
 
 // A refusal: its number and its place.
-pub fn refusal(why: answer::Refusal, place: u64) {
-    put(b" refused ");
-    number(why.number() as u64);
-    put(b" at ");
-    number(place);
-    put(b"\n");
+pub fn refusal(rt: &impl Print, why: answer::Refusal, place: u64) -> io::Result<()> {
+    put(rt, b" refused ")?;
+    number(rt, why.number() as u64)?;
+    put(rt, b" at ")?;
+    number(rt, place)?;
+    put(rt, b"\n")
 }

@@ -2,6 +2,8 @@
 use crate::input::{Lengths, Settings};
 use crate::{input, output};
 use answer::Answer;
+use std::io;
+use std::io::Read;
 
 // The most bytes that a case's table or image has, and the most entries of its columns.
 const BYTES: usize = 8192;
@@ -37,27 +39,36 @@ const APA1_WRITE: u8 = 6;
 const RELLEB_READ: u8 = 7;
 
 // Runs the next case, and tells whether there was one.
-pub fn run() -> bool {
+pub fn run<R: Read>(rt: &impl Print, reader: &mut R) -> io::Result<bool> {
     let mut code = [0u8; 1];
-    if !input::bytes(&mut code) {
-        return false;
+    if !input::bytes(reader, &mut code)? {
+        return Ok(false);
     }
-    let settings = input::case_settings();
+    let settings = input::case_settings(reader)?;
     let mut space = [0u8; BYTES];
-    let n = input::capped(input::u32le(), BYTES);
+    let n = input::capped(input::u32le(reader)?, BYTES);
     let table: &mut [u8] = &mut space[..n];
-    input::bytes(table);
-    let lengths = input::column_lengths();
+    input::bytes(reader, table)?;
+    let lengths = input::column_lengths(reader)?;
     match code[0] {
-        RELR_READ | APR1_READ | APA1_READ | RELLEB_READ => read(code[0], settings, table, lengths),
-        RELR_APPLY => apply(settings, table),
-        _ => write(code[0], settings, lengths),
+        RELR_READ | APR1_READ | APA1_READ | RELLEB_READ => read(
+            rt, reader, code[0], settings, table, lengths,
+        )?,
+        RELR_APPLY => apply(rt, reader, settings, table)?,
+        _ => write(rt, reader, code[0], settings, lengths)?,
     }
-    true
+    Ok(true)
 }
 
 // A kind that lacks a column has one of no entries.
-fn read(code: u8, settings: Settings, table: &[u8], lengths: Lengths) {
+fn read<R: Read>(
+    rt: &impl Print,
+    reader: &mut R,
+    code: u8,
+    settings: Settings,
+    table: &[u8],
+    lengths: Lengths,
+) -> io::Result<()> {
     let mut offset_space = [FILL64; OFFSETS];
     let mut type_space = [FILL32; ENTRIES];
     let mut symbol_space = [FILL32; ENTRIES];
@@ -70,7 +81,7 @@ fn read(code: u8, settings: Settings, table: &[u8], lengths: Lengths) {
     let symbols: &mut [u32] = &mut symbol_space[..n_symbols];
     let n_addends = input::capped(lengths.addends, ENTRIES);
     let addends: &mut [i64] = &mut addend_space[..n_addends];
-    input::u32le();
+    input::u32le(reader)?;
     let order = settings.order;
     let strict = settings.strict;
     let a = match code {
@@ -90,10 +101,16 @@ fn read(code: u8, settings: Settings, table: &[u8], lengths: Lengths) {
     let h = output::column64(output::EMPTY, offsets);
     let h = output::column32(h, types);
     let h = output::column32(h, symbols);
-    output::line(a, output::signed_column(h, addends));
+    output::line(rt, a, output::signed_column(h, addends))
 }
 
-fn write(code: u8, settings: Settings, lengths: Lengths) {
+fn write<R: Read>(
+    rt: &impl Print,
+    reader: &mut R,
+    code: u8,
+    settings: Settings,
+    lengths: Lengths,
+) -> io::Result<()> {
     let mut offset_list = [0u64; OFFSETS];
     let mut type_list = [0u32; ENTRIES];
     let mut symbol_list = [0u32; ENTRIES];
@@ -106,12 +123,12 @@ fn write(code: u8, settings: Settings, lengths: Lengths) {
     let symbols: &mut [u32] = &mut symbol_list[..n_symbols];
     let n_addends = input::capped(lengths.addends, ENTRIES);
     let addends: &mut [i64] = &mut addend_list[..n_addends];
-    input::column64(offsets);
-    input::column32(types);
-    input::column32(symbols);
-    input::signed_column(addends);
+    input::column64(reader, offsets)?;
+    input::column32(reader, types)?;
+    input::column32(reader, symbols)?;
+    input::signed_column(reader, addends)?;
     let mut space = [FILL8; BYTES];
-    let m = input::capped(input::u32le(), BYTES);
+    let m = input::capped(input::u32le(reader)?, BYTES);
     let table: &mut [u8] = &mut space[..m];
     let order = settings.order;
     let a = match code {
@@ -120,14 +137,19 @@ fn write(code: u8, settings: Settings, lengths: Lengths) {
         APA1_WRITE => apa1::write(offsets, addends, table),
         _ => relleb::write(settings.class, offsets, types, symbols, addends, table),
     };
-    output::line(a, output::bytes(output::EMPTY, table));
+    output::line(rt, a, output::bytes(output::EMPTY, table))
 }
 
-fn apply(settings: Settings, table: &[u8]) {
+fn apply<R: Read>(
+    rt: &impl Print,
+    reader: &mut R,
+    settings: Settings,
+    table: &[u8],
+) -> io::Result<()> {
     let mut space = [0u8; BYTES];
-    let m = input::capped(input::u32le(), BYTES);
+    let m = input::capped(input::u32le(reader)?, BYTES);
     let image: &mut [u8] = &mut space[..m];
-    input::bytes(image);
+    input::bytes(reader, image)?;
     let order = settings.order;
     let a = relr::apply(
         settings.class,
@@ -137,5 +159,5 @@ fn apply(settings: Settings, table: &[u8]) {
         settings.start,
         image,
     );
-    output::line(a, output::bytes(output::EMPTY, image));
+    output::line(rt, a, output::bytes(output::EMPTY, image))
 }

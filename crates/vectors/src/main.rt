@@ -9,12 +9,12 @@ mod output;
 // More than the corpus has.
 const CASES: u32 = 1000000;
 
-fn main() {
-    let mut i: u32 = 0;
-    while i < CASES {
-        if !calls::run() {
-            return;
+fn main(rt: HostRuntime) -> std::io::Result<()> {
+    let mut reader = rt.reader();
+    for _ in 0..CASES {
+        if !calls::run(&rt, &mut reader)? {
+            break;
         }
-        i += 1;
     }
+    Ok(())
 }

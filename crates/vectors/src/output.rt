@@ -1,6 +1,6 @@
 // A line of the expected output: the answer, and the 64-bit FNV-1a hash of what was lent.
 use answer::Answer;
-use libc::STDOUT_FILENO;
+use std::io;
 
 // The hash of nothing.
 pub const EMPTY: u64 = 0xCBF29CE484222325;
@@ -11,15 +11,13 @@ fn byte(hash: u64, b: u8) -> u64 {
     let top = x % 16777216 * 1099511627776;
     let high = x / 4294967296 % 4294967296 * 435 % 4294967296 * 4294967296;
     let low = x % 4294967296 * 435;
-    std::num::wrapping_add_u64(top, std::num::wrapping_add_u64(high, low))
+    top.wrapping_add(high.wrapping_add(low))
 }
 
 pub fn bytes(hash: u64, s: &[u8]) -> u64 {
     let mut h = hash;
-    let mut i: usize = 0;
-    while i < s.len() {
-        h = byte(h, s[i]);
-        i += 1;
+    for b in s {
+        h = byte(h, *b);
     }
     h
 }
@@ -37,10 +35,8 @@ fn number(hash: u64, x: u64, size: u32) -> u64 {
 
 pub fn column64(hash: u64, column: &[u64]) -> u64 {
     let mut h = hash;
-    let mut i: usize = 0;
-    while i < column.len() {
-        h = number(h, column[i], 8);
-        i += 1;
+    for entry in column {
+        h = number(h, *entry, 8);
     }
     h
 }
@@ -51,31 +47,20 @@ fn widen(x: u32) -> u64 {
 
 pub fn column32(hash: u64, column: &[u32]) -> u64 {
     let mut h = hash;
-    let mut i: usize = 0;
-    while i < column.len() {
-        h = number(h, widen(column[i]), 4);
-        i += 1;
+    for entry in column {
+        h = number(h, widen(*entry), 4);
     }
     h
 }
 
 pub fn signed_column(hash: u64, column: &[i64]) -> u64 {
     let mut h = hash;
-    let mut i: usize = 0;
-    while i < column.len() {
-        h = number(h, wrap::moved(64, 0, column[i]), 8);
-        i += 1;
+    for entry in column {
+        h = number(h, wrap::moved(64, 0, *entry), 8);
     }
     h
 }
 
-pub fn line(a: Answer, hash: u64) {
-    io::print_decimal(STDOUT_FILENO, a.number as u64);
-    io::write_all(STDOUT_FILENO, b" ");
-    io::print_decimal(STDOUT_FILENO, a.place);
-    io::write_all(STDOUT_FILENO, b" ");
-    io::print_decimal(STDOUT_FILENO, a.count);
-    io::write_all(STDOUT_FILENO, b" ");
-    io::print_hex(STDOUT_FILENO, hash, 16);
-    io::write_all(STDOUT_FILENO, b"\n");
+pub fn line(rt: &impl Print, a: Answer, hash: u64) -> io::Result<()> {
+    println!(rt; "{} {} {} {hash:016x}", a.number, a.place, a.count)
 }
