@@ -1,6 +1,6 @@
 # The static library, its header and its pkg-config file.
 #
-#   make                     proves and builds target/staticlib/libreloc.a (with the Rattle kit on the PATH)
+#   make                     proves and builds crates/reloc/out/libreloc.a (with the Rattle kit on the PATH)
 #   make install             puts library, header and reloc.pc under $(DESTDIR)$(PREFIX)
 #   make uninstall           takes them away
 #
@@ -13,16 +13,17 @@ include_dir = $(DESTDIR)$(PREFIX)/include
 lib_dir = $(DESTDIR)$(PREFIX)/lib
 
 ifeq ($(RELOC_LIB_DIR),)
-archive = target/staticlib/libreloc.a
+archive = crates/reloc/out/libreloc.a
 else
 archive = $(RELOC_LIB_DIR)/libreloc.a
 endif
 
 all: $(archive)
 
-# rt proves again what changed, so it is asked each time.
-target/staticlib/libreloc.a: always
-	rt staticlib reloc
+# rt proves again what changed, so it is asked each time. The library is for every x86-64: a later one's instructions want constants, which
+# would be data in it.
+crates/reloc/out/libreloc.a: always
+	cd crates/reloc && rt lib --cpu=x86-64
 
 install: $(archive)
 	install -d '$(include_dir)' '$(lib_dir)/pkgconfig'

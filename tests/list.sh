@@ -1,14 +1,17 @@
 #!/usr/bin/env bash
-# Runs the listing program in target/bin at its limits and on bad input, and the main command ./list-table: on its samples, with wrong
-# arguments, with a table that is refused, and when something has to be proved.
+# Runs the listing program at its limits and on bad input, and the main command ./list-table: on its samples, with wrong arguments,
+# with a table that is refused, and when something has to be proved.
 set -eu
 root=$(cd "$(dirname "$0")/.." && pwd)
 out=$(mktemp -d)
 trap 'rm -rf "$out"' EXIT
 
+# the program is proved and built by the main command
+"$root/list-table" >"$out/listed"
+
 # the case $1: for standard input the program prints what the command that follows prints
 expect() {
-    "$root/target/bin/list" >"$out/got"
+    "$root/crates/list/out/list" >"$out/got"
     "${@:2}" >"$out/want"
     cmp -s "$out/want" "$out/got" || { echo "list: $1: got"; head -n 5 "$out/got"; exit 1; }
 }
@@ -77,10 +80,9 @@ PATH=$out/bin:$PATH ends 2 apa1
 [ ! -e "$out/called" ] || fail "proved before the arguments were looked at"
 
 # A copy in which the program has changed: it is proved again, over the libraries that are proved here, and that is told, a line a crate.
-mkdir -p "$out/copy/target"
+mkdir "$out/copy"
 cp -a "$root/list-table" "$root/crates.txt" "$root/crates" "$out/copy"
-cp -a "$root/target/stamp" "$out/copy/target"
-ln -s "$root/target/rlib" "$out/copy/target/rlib"
+rm "$out/copy/crates/list/out/list"
 echo '// changed' >>"$out/copy/crates/list/src/main.rt"
 command=$out/copy/list-table
 ends 0 apa1 "$root/samples/pairs.apa1"

@@ -15,17 +15,16 @@ def crates():
     """Each crate of crates.txt with the libraries that it names."""
     lines = (line.split("#")[0] for line in (ROOT / "crates.txt").read_text().splitlines())
     parts = (line.partition(":") for line in lines)
-    return {crate.strip(): libraries.split() for crate, colon, libraries in parts if colon}
+    return {crate.split()[0]: libraries.split() for crate, colon, libraries in parts if colon}
 
 
 @contextlib.contextmanager
-def copied(*folders):
-    """A temporary copy of crates.txt, crates/ and these folders."""
+def copied(built=False):
+    """A temporary copy of crates.txt and crates/, if asked with what checks have kept in out/."""
     with tempfile.TemporaryDirectory() as name:
         place = pathlib.Path(name)
         shutil.copy(ROOT / "crates.txt", place)
-        for folder in ("crates", *folders):
-            shutil.copytree(ROOT / folder, place / folder)
+        shutil.copytree(ROOT / "crates", place / "crates", ignore=None if built else shutil.ignore_patterns("out"))
         yield place
 
 
