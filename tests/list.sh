@@ -7,7 +7,7 @@ out=$(mktemp -d)
 trap 'rm -rf "$out"' EXIT
 
 # the program is proved and built by the main command
-"$root/list-table" >"$out/listed"
+"$root/list-table" >/dev/null
 
 # the case $1: for standard input the program prints what the command that follows prints
 expect() {

@@ -8,7 +8,8 @@ use std::io;
 use std::io::Read;
 
 // How many bytes of the input now stand at the front of the buffer: fewer than it has room for only where the input ended. A read that
-// fails ends the call with its error.
+// fails ends the call with its error. Of the bytes behind them nothing is said, since a read says nothing of what it was lent and did not
+// fill.
 pub fn read_full<R: Read>(reader: &mut R, buf: &mut [u8]) -> io::Result<usize>
     ensures within { IfOk result (λ n. n ≤ length buf.new) }
     ensures bytes { IfOk result (λ n. Consumes (R.remaining reader.old) (R.remaining reader.new) (take n buf.new)) }
