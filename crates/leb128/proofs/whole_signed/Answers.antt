@@ -1,11 +1,10 @@
-use mathlib.Core.Path.{ap, ◌∙◌, subst}
+use mathlib.Core.Path.{ap, ◌∙◌}
 use Prim.Native.Nat.{◌≤◌}
 use native.Mathlib.Omega.{arith}
 use lib.IntN.{pos, negsuc}
 use lib.Pow.{pow_mono}
 use mir.Syntax.{w64}
 use mir.Facts.{to_z-of_z}
-use Rattle.leb128.specs.Inner.{Held}
 use Rattle.leb128.proofs.Reading.{signed_pos, signed_neg}
 use Rattle.leb128.proofs.whole_signed.Goals as goal
 
