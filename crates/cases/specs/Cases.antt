@@ -6,7 +6,7 @@ use Rattle.word.specs.declared.Size.TheVariants.{Four, Eight}
 use Rattle.word.specs.declared.ByteOrder.{ByteOrder}
 use Rattle.word.specs.declared.ByteOrder.TheVariants.{Little, Big}
 use Rattle.word.specs.declared.Class.{Class}
-use Rattle.word.specs.declared.Named.TheVariants.{Is}
+use Rattle.std.specs.Prelude.{Some}
 use Rattle.word.specs.Class.{class_in}
 use Rattle.word.specs.Word.{value_of, bytes_in, arranged, word_at, with_word, first_words, words_of, bytes_of_words}
 use Rattle.relr_table.specs.Words as relr
@@ -54,7 +54,7 @@ pub PatchedTo : Size → List ℕ → ℕ → ℕ → List ℕ → Outcome (List
 PatchedTo z words base start old o new order =
     let k = class_in z order in
     (targets k (bytes_of_words k words) base start (length (bytes_of_words k old)) ≡ o)
-    × (image_after (Is z) order (bytes_of_words k words) base start (bytes_of_words k old) ≡ bytes_of_words k new)
+    × (image_after (Some z) order (bytes_of_words k words) base start (bytes_of_words k old) ≡ bytes_of_words k new)
 
 -- in each order
 abbrev pub InBoth : (ByteOrder → Type 0) → Type 0

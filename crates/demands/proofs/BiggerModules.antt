@@ -25,8 +25,8 @@ use Rattle.word.specs.declared.Size.{Size}
 use Rattle.word.specs.declared.Size.TheVariants.{Four, Eight}
 use Rattle.word.specs.declared.ByteOrder.{ByteOrder}
 use Rattle.word.specs.declared.Class.{Class}
-use Rattle.word.specs.declared.Named.{Named}
-use Rattle.word.specs.declared.Named.TheVariants.{Is, Unknown}
+use Rattle.std.specs.Prelude.{Option}
+use Rattle.std.specs.Prelude.{Some, None}
 use Rattle.word.specs.Class.{width_of, class_in, bytes_of, window_of, class_of, in_class}
 use Rattle.word.specs.Class.Laws.{size_most, bytes_least, by_bytes}
 use Rattle.relr_table.specs.Words.{Where}
@@ -83,9 +83,9 @@ module _ {A : Type 0} {P n : ℕ} {r : Answer} (small : P < 2 ^ 64) (few : n < 2
 bounded_cond : {A : Type 0} {P n : ℕ} (t : Bool) (w : Refusal) (o : Outcome (List A)) → Bounded P n o → Bounded P n (cond t o (refused w 0))
 bounded_cond t w o b = of_cond (Bounded _ _) t o (refused w 0) b (record { place = omega arith; long = tt })
 
-bounded_class : {A : Type 0} (P n : Named → ℕ) (f : Size → Outcome (List A)) → ((z : Size) → Bounded (P (Is z)) (n (Is z)) (f z)) → (m : Named) → Bounded (P m) (n m) (in_class m f)
-bounded_class P n f h (Is z) = h z
-bounded_class P n f h Unknown = record { place = omega arith; long = tt }
+bounded_class : {A : Type 0} (P n : Option Size → ℕ) (f : Size → Outcome (List A)) → ((z : Size) → Bounded (P (Some z)) (n (Some z)) (f z)) → (m : Option Size) → Bounded (P m) (n m) (in_class m f)
+bounded_class P n f h (Some z) = h z
+bounded_class P n f h None = record { place = omega arith; long = tt }
 
 -- a write's answer
 readable : {P n : ℕ} {r : Answer} → n ≤ input_limit → Within P n r → Readable P n r
@@ -96,16 +96,16 @@ module _ (class : ℕ) where
   offsets_fit : in_named relr_offsets (class_of class) < 2 ^ 64
   offsets_fit = go (class_of class)
     where
-      go : (m : Named) → in_named relr_offsets m < 2 ^ 64
-      go (Is z) = relr_offsets_fit z
-      go Unknown = lit< tt
+      go : (m : Option Size) → in_named relr_offsets m < 2 ^ 64
+      go (Some z) = relr_offsets_fit z
+      go None = lit< tt
 
   bytes_readable : in_named relr_bytes (class_of class) ≤ input_limit
   bytes_readable = go (class_of class)
     where
-      go : (m : Named) → in_named relr_bytes m ≤ input_limit
-      go (Is z) = relr_bytes_fit z
-      go Unknown = omega arith
+      go : (m : Option Size) → in_named relr_bytes m ≤ input_limit
+      go (Some z) = relr_bytes_fit z
+      go None = omega arith
 
   pub relr_read : (order : ByteOrder) (s column : List ℕ) {column' : List ℕ} {r : Answer} → relr-contract.Reads class order s column r column' → Within input_limit (in_named relr_offsets (class_of class)) r
   unfolding relr-contract.decoding

@@ -18,8 +18,8 @@ use Rattle.answer.specs.declared.Refusal.TheVariants as why
 use Rattle.answer.specs.Outcome.{Outcome, accepted, refused, list_limit, limited, Gives}
 use Rattle.word.specs.declared.Size.{Size}
 use Rattle.word.specs.declared.ByteOrder.TheVariants.{Little, Big}
-use Rattle.word.specs.declared.Named.{Named}
-use Rattle.word.specs.declared.Named.TheVariants.{Is, Unknown}
+use Rattle.std.specs.Prelude.{Option}
+use Rattle.std.specs.Prelude.{Some, None}
 use Rattle.word.specs.Class.{size_of, width_of, class_in, class_of, in_class}
 use Rattle.word.specs.Class.Laws.{size_least}
 use Rattle.word.specs.Word.{value_of, bytes_in, arranged, word_at, with_word, first_words, words_of, bytes_of_words}
@@ -107,7 +107,7 @@ module _ (z : Size) where
   reversed_bytes ws = rw (bytes_words_length (class_in z Little) ws, mul-div_cancel (length ws) some) (reversed_first_bytes ws)
 
 -- a list's refusals are the same in both orders
-module _ (n : Named) where
+module _ (n : Option Size) where
   reversed_cond : (b : Bool) (o q : Outcome (List ℕ)) → outcome_reversed n (cond b o q) ≡ cond b (outcome_reversed n o) (outcome_reversed n q)
   reversed_cond true o q = refl
   reversed_cond false o q = refl
@@ -129,14 +129,14 @@ module _ (n : Named) where
   unfolding outcome_reversed
   reversed_limited most long o = reversed_cond (leb long most) o (refused why.Limit 0)
 
-reversed_table : (z : Size) (l : List ℕ) → outcome_reversed (Is z) (accepted (table_bytes (class_in z Little) l)) ≡ accepted (table_bytes (class_in z Big) l)
+reversed_table : (z : Size) (l : List ℕ) → outcome_reversed (Some z) (accepted (table_bytes (class_in z Little) l)) ≡ accepted (table_bytes (class_in z Big) l)
 unfolding outcome_reversed reversed_in
 reversed_table z l = ap accepted (reversed_bytes z (table (size_of z) (width_of z - 1) l))
 
-pub encode_orders : (z : Size) (l : List ℕ) → encode (class_in z Big) l ≡ outcome_reversed (Is z) (encode (class_in z Little) l)
+pub encode_orders : (z : Size) (l : List ℕ) → encode (class_in z Big) l ≡ outcome_reversed (Some z) (encode (class_in z Little) l)
 unfolding encode build
 encode_orders z l =
-    let n = Is z in
+    let n = Some z in
     let table = accepted (table_bytes (class_in z Little) l) in
     let top = space_of (class_in z Little) in
     sym (reversed_limited n list_limit (length l) (checked (size_of z) top 0 0 l table)
@@ -148,9 +148,9 @@ module _ (class : ℕ) where
   unfolding decoding reversed_in
   relr_read_orders s = go (class_of class)
     where
-      go : (n : Named) → in_class n (λ z. decode (class_in z Big) s) ≡ in_class n (λ z. decode (class_in z Little) (reversed_in n s))
-      go (Is z) = decode_orders z s
-      go Unknown = refl
+      go : (n : Option Size) → in_class n (λ z. decode (class_in z Big) s) ≡ in_class n (λ z. decode (class_in z Little) (reversed_in n s))
+      go (Some z) = decode_orders z s
+      go None = refl
 
   module _ (s : List ℕ) {old new : List ℕ} {r : Answer} where
     pub relr_reads_big : Reads class Little (reversed_in (class_of class) s) old r new → Reads class Big s old r new
@@ -163,6 +163,6 @@ module _ (class : ℕ) where
   unfolding encoding outcome_reversed
   relr_write_orders l = go (class_of class)
     where
-      go : (n : Named) → in_class n (λ z. encode (class_in z Big) l) ≡ outcome_reversed n (in_class n (λ z. encode (class_in z Little) l))
-      go (Is z) = encode_orders z l
-      go Unknown = refl
+      go : (n : Option Size) → in_class n (λ z. encode (class_in z Big) l) ≡ outcome_reversed n (in_class n (λ z. encode (class_in z Little) l))
+      go (Some z) = encode_orders z l
+      go None = refl

@@ -26,7 +26,7 @@ use Rattle.records.specs.Columns.{Each}
 use Rattle.records.specs.Reading.{Fitting}
 use Rattle.word.specs.declared.Size.{Size}
 use Rattle.word.specs.declared.ByteOrder.{ByteOrder}
-use Rattle.word.specs.declared.Named.TheVariants.{Is}
+use Rattle.std.specs.Prelude.{Some}
 use Rattle.word.specs.Class.{width_of, class_in, class_of}
 use Rattle.word.specs.Class.Laws.{class_accepted}
 use Rattle.relr_table.specs.Table as relr
@@ -100,11 +100,11 @@ module _ {o : Outcome (List ℕ)} {old new : List ℕ} {w : Answer} (g : Gives o
 
 -- ---- RELR
 module _ (class : ℕ) (order : ByteOrder) (l : List ℕ) where
-  pub relr_legal : (z : Size) → class_of class ≡ Is z → relr.Writable (class_in z order) l → Accepts (relr-contract.encoding class order l)
+  pub relr_legal : (z : Size) → class_of class ≡ Some z → relr.Writable (class_in z order) l → Accepts (relr-contract.encoding class order l)
   relr_legal z e h =
       record { list = relr.table_bytes (class_in z order) l; is = relr-laws.encoding_is class order refl e l ∙ relr-trip.encode_accepts (class_in z order) l h }
 
-  pub relr_legal_is : {b : List ℕ} → relr-contract.encoding class order l ≡ accepted b → (z : Size) × (class_of class ≡ Is z) × relr.Writable (class_in z order) l
+  pub relr_legal_is : {b : List ℕ} → relr-contract.encoding class order l ≡ accepted b → (z : Size) × (class_of class ≡ Some z) × relr.Writable (class_in z order) l
   unfolding relr-contract.encoding
   relr_legal_is e = let (z, n, f) = class_accepted (class_of class) _ e in (z, n, relr-trip.encode_legal (class_in z order) l f)
 
@@ -121,7 +121,7 @@ module _ (class : ℕ) (order : ByteOrder) (l old column : List ℕ) {new column
 
 -- the byte at index i, whose address is the start plus i, is as it was if it lies in no word at an offset of the table
 module _ (class : ℕ) (order : ByteOrder) (s : List ℕ) (base start : ℕ) (old : List ℕ) {new : List ℕ} {r : Answer} where
-  pub relr_elsewhere : relr-contract.Applies class order s base start old r new → (z : Size) → class_of class ≡ Is z → (l : List ℕ) → relr.decode (class_in z order) s ≡ accepted l
+  pub relr_elsewhere : relr-contract.Applies class order s base start old r new → (z : Size) → class_of class ≡ Some z → (l : List ℕ) → relr.decode (class_in z order) s ≡ accepted l
       → (i : ℕ) → relr.Apart (class_in z order) (start + i) l → get_or new i 0 ≡ get_or old i 0
   unfolding relr-contract.image_after relr-contract.changed
   relr_elsewhere a z n l d i p =
@@ -186,14 +186,14 @@ module _ (os : List ℕ) (us : List ℤ) where
 
 -- ---- RELLEB
 module _ (class : ℕ) (os ts ys : List ℕ) (us : List ℤ) where
-  pub relleb_legal : (z : Size) → class_of class ≡ Is z → relleb-contract.Same os ts ys us → length os ≤ list_limit → Each (relleb.InWidth (width_of z)) (relleb.rows os ts ys us)
+  pub relleb_legal : (z : Size) → class_of class ≡ Some z → relleb-contract.Same os ts ys us → length os ≤ list_limit → Each (relleb.InWidth (width_of z)) (relleb.rows os ts ys us)
       → Accepts (relleb-contract.encoding class os ts ys us)
   relleb_legal z n s h f =
       let a = relleb-trip.encode_accepts (width_of z) (relleb.rows os ts ys us) (omega (arith, relleb-laws.many os ts ys us s)) f in
       record { list = a.list; is = relleb-laws.write_plain class os ts ys us refl n (relleb-laws.same_even os ts ys us s) ∙ a.is }
 
   pub relleb_legal_is : {b : List ℕ} → relleb-contract.encoding class os ts ys us ≡ accepted b
-      → (z : Size) × (class_of class ≡ Is z) × relleb-contract.Same os ts ys us × (length os ≤ list_limit) × Each (relleb.InWidth (width_of z)) (relleb.rows os ts ys us)
+      → (z : Size) × (class_of class ≡ Some z) × relleb-contract.Same os ts ys us × (length os ≤ list_limit) × Each (relleb.InWidth (width_of z)) (relleb.rows os ts ys us)
   relleb_legal_is e =
       let (z, n, s, f) = relleb-laws.write_accepted class os ts ys us e in
       let (h, l) = relleb-trip.encode_legal (width_of z) (relleb.rows os ts ys us) f in
@@ -218,7 +218,7 @@ module _ (class : ℕ) (os ts ys : List ℕ) (us : List ℤ) where
 
 -- a table that is written has no addend difference of 0
 pub relleb_changes : (class : ℕ) (os ts ys : List ℕ) (us : List ℤ) {b : List ℕ} → relleb-contract.encoding class os ts ys us ≡ accepted b
-    → (z : Size) × (class_of class ≡ Is z) × relleb.Along (relleb.Changed (width_of z)) relleb.start (relleb.rows os ts ys us)
+    → (z : Size) × (class_of class ≡ Some z) × relleb.Along (relleb.Changed (width_of z)) relleb.start (relleb.rows os ts ys us)
 relleb_changes class os ts ys us e =
     let (z, n, s, h, l) = relleb_legal_is class os ts ys us e in
     (z, n, legal_changes (width_of z) (relleb-laws.class_width z refl) (relleb.rows os ts ys us) l)

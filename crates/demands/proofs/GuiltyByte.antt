@@ -17,8 +17,8 @@ use Rattle.answer.specs.Outcome.{Outcome, accepted, refused, success, refusal, n
 use Rattle.answer.specs.Outcome.Laws.{number_one}
 use Rattle.leb128.proofs.Setting.{signed_value}
 use Rattle.word.specs.declared.Size.{Size}
-use Rattle.word.specs.declared.Named.{Named}
-use Rattle.word.specs.declared.Named.TheVariants.{Is, Unknown}
+use Rattle.std.specs.Prelude.{Option}
+use Rattle.std.specs.Prelude.{Some, None}
 use Rattle.word.specs.Class.{width_of, class_of, in_class}
 use Rattle.apr1_table.specs.Contract as apr1
 use Rattle.apr1_table.specs.GuiltyByte as apr1-byte
@@ -83,17 +83,17 @@ module _ (size : ℕ) (strict : Bool) (s os ts ys : List ℕ) (us : List ℤ) {r
   relleb_uneven k true e = relleb-guilty.decode_guilty strict (width_of k) (relleb-laws.class_width k refl).0 s bytes e
   relleb_uneven k false e = let z : ◌≡◌ {A = ℕ} 0 1 = cc in absurd (omega arith)
 
-  pub relleb_width : (k : Size) × (class_of size ≡ Is k) × relleb-byte.WidthFault (width_of k) s r.place
+  pub relleb_width : (k : Size) × (class_of size ≡ Some k) × relleb-byte.WidthFault (width_of k) s r.place
   unfolding relleb.decoding
   relleb_width = go (class_of size) refl (answered (length os) (relleb.decoding size strict s (length os) (length ts) (length ys) (length us)) reads.answer is)
     where
       even : Bool
       even = relleb.even (length os) (length ts) (length ys) (length us)
 
-      go : (n : Named) → class_of size ≡ n → in_class n (λ k. cond even (relleb-table.decode strict (width_of k) s) (refused Columns 0)) ≡ refused Width r.place
-          → (k : Size) × (class_of size ≡ Is k) × relleb-byte.WidthFault (width_of k) s r.place
-      go (Is k) e f = (k, e, relleb_uneven k even f)
-      go Unknown e f = let z : ◌≡◌ {A = ℕ} 0 1 = cc in absurd (omega arith)
+      go : (n : Option Size) → class_of size ≡ n → in_class n (λ k. cond even (relleb-table.decode strict (width_of k) s) (refused Columns 0)) ≡ refused Width r.place
+          → (k : Size) × (class_of size ≡ Some k) × relleb-byte.WidthFault (width_of k) s r.place
+      go (Some k) e f = (k, e, relleb_uneven k even f)
+      go None e f = let z : ◌≡◌ {A = ℕ} 0 1 = cc in absurd (omega arith)
 
   pub relleb_inside : r.place < length s
   relleb_inside = let (k, e, f) = relleb_width in go k f

@@ -26,8 +26,8 @@ use Rattle.answer.specs.Said.{of_refused}
 use Rattle.word.specs.declared.Size.{Size}
 use Rattle.word.specs.declared.ByteOrder.{ByteOrder}
 use Rattle.word.specs.declared.Class.{Class}
-use Rattle.word.specs.declared.Named.{Named}
-use Rattle.word.specs.declared.Named.TheVariants.{Is, Unknown}
+use Rattle.std.specs.Prelude.{Option}
+use Rattle.std.specs.Prelude.{Some, None}
 use Rattle.word.specs.Class.{class_in, bytes_of, class_of, in_class}
 use Rattle.relr_table.specs.Table.{inside, Inside, All, leading, contained, above, decode, targets, indexes, patched}
 use Rattle.relr_table.specs.Contract.{applying, changed, image_after, Applies}
@@ -106,7 +106,7 @@ module _ (k : Class) (start size : ℕ) where
       }
 
 -- ---- the contract for a class
-module _ (class : ℕ) (order : ByteOrder) (s : List ℕ) (base start : ℕ) (old : List ℕ) {z : Size} (n : class_of class ≡ Is z) where
+module _ (class : ℕ) (order : ByteOrder) (s : List ℕ) (base start : ℕ) (old : List ℕ) {z : Size} (n : class_of class ≡ Some z) where
   pub applying_is : applying class order s base start (length old) ≡ targets (class_in z order) s base start (length old)
   unfolding applying
   applying_is = rw n
@@ -119,7 +119,7 @@ module _ (class : ℕ) (order : ByteOrder) (s : List ℕ) (base start : ℕ) (ol
   unfolding image_after changed
   image_refused e = rw (n, e)
 
-applying_unknown : (class : ℕ) (order : ByteOrder) (s : List ℕ) (base start size : ℕ) → class_of class ≡ Unknown → applying class order s base start size ≡ refused why.Class 0
+applying_unknown : (class : ℕ) (order : ByteOrder) (s : List ℕ) (base start size : ℕ) → class_of class ≡ None → applying class order s base start size ≡ refused why.Class 0
 unfolding applying
 applying_unknown class order s base start size n = rw n
 
@@ -158,8 +158,8 @@ module _ (class : ℕ) (order : ByteOrder) (s : List ℕ) (base start : ℕ) (ol
       has : Counted (applying class order s base start (length old)) r.count
       has = all_zero (applying class order s base start (length old)) a.answer none
 
-      go : (m : Named) → class_of class ≡ m → Applied class order s base start old r new
-      go (Is z) n =
+      go : (m : Option Size) → class_of class ≡ m → Applied class order s base start old r new
+      go (Some z) n =
           let t : targets (class_in z order) s base start (length old) ≡ accepted has.list = sym (applying_is class order s base start old n) ∙ has.is in
           let (d, each) = targets_accepted (class_in z order) s base start (length old) t in
           record {
@@ -171,7 +171,7 @@ module _ (class : ℕ) (order : ByteOrder) (s : List ℕ) (base start : ℕ) (ol
             answer = a.answer ∙ answer_all (record { list = has.list; is = has.is; long = refl });
             image = a.image ∙ image_accepted class order s base start old n t;
           }
-      go Unknown n = absurd (accepted_refused has.is (applying_unknown class order s base start (length old) n))
+      go None n = absurd (accepted_refused has.is (applying_unknown class order s base start (length old) n))
 
   pub relr_outside : r.number ≡ 12 → Outside class order s start old r new
   relr_outside twelve = go (class_of class) refl
@@ -179,17 +179,17 @@ module _ (class : ℕ) (order : ByteOrder) (s : List ℕ) (base start : ℕ) (ol
       no : applying class order s base start (length old) ≡ refused why.Outside r.place
       no = all_refused (applying class order s base start (length old)) why.Outside a.answer twelve
 
-      go : (m : Named) → class_of class ≡ m → Outside class order s start old r new
-      go (Is z) n =
+      go : (m : Option Size) → class_of class ≡ m → Outside class order s start old r new
+      go (Some z) n =
           let t : targets (class_in z order) s base start (length old) ≡ refused why.Outside r.place = sym (applying_is class order s base start old n) ∙ no in
           let (l, d, f) = targets_outside (class_in z order) s base start (length old) r.place t in
           record { z = z; named = n; list = l; decodes = d; first = f; image = a.image ∙ image_refused class order s base start old n t }
-      go Unknown n =
+      go None n =
           let q : ◌≡◌ {A = Outcome (List ℕ)} (refused why.Class 0) (refused why.Outside r.place) = sym (applying_unknown class order s base start (length old) n) ∙ no in
           let no : ◌≡◌ {A = ℕ} 0 1 = cc in
           absurd (omega arith)
 
-  module _ (z : Size) (n : class_of class ≡ Is z) (allowed : above (class_in z order) base ≡ false) (l : List ℕ) (d : decode (class_in z order) s ≡ accepted l) where
+  module _ (z : Size) (n : class_of class ≡ Some z) (allowed : above (class_in z order) base ≡ false) (l : List ℕ) (d : decode (class_in z order) s ≡ accepted l) where
     pub relr_applies : All (Inside (class_in z order) start (length old)) l → (r ≡ success (length l)) × (new ≡ patched (class_in z order) base (indexes start l) old)
     relr_applies each =
         let test = inside (class_in z order) start (length old) in
@@ -205,7 +205,7 @@ module _ (class : ℕ) (order : ByteOrder) (s : List ℕ) (base start : ℕ) (ol
         targets_in (class_in z order) s base start (length old) allowed ∙ contained_not test d (λ q. absurd (omega (arith, f.listed))) ∙ ap (refused why.Outside) e in
         (a.answer ∙ answer_none (applying_is class order s base start old n ∙ t), a.image ∙ image_refused class order s base start old n t)
 
-  pub relr_any_start : (z : Size) → class_of class ≡ Is z → above (class_in z order) base ≡ false → decode (class_in z order) s ≡ accepted [] → (r ≡ success 0) × (new ≡ old)
+  pub relr_any_start : (z : Size) → class_of class ≡ Some z → above (class_in z order) base ≡ false → decode (class_in z order) s ≡ accepted [] → (r ≡ success 0) × (new ≡ old)
   unfolding patched indexes
   relr_any_start z n allowed d = relr_applies z n allowed [] d tt
 
@@ -237,14 +237,14 @@ module _ (class : ℕ) (order : ByteOrder) (s : List ℕ) (base : ℕ) (old : Li
   unfolding applying zero.applying
   applying_zero = go (class_of class)
     where
-      go : (m : Named) → in_class m (λ z. targets (class_in z order) s base 0 (length old)) ≡ in_class m (λ z. zero.targets (class_in z order) s base (length old))
-      go (Is z) = targets_zero (class_in z order) s base (length old)
-      go Unknown = refl
+      go : (m : Option Size) → in_class m (λ z. targets (class_in z order) s base 0 (length old)) ≡ in_class m (λ z. zero.targets (class_in z order) s base (length old))
+      go (Some z) = targets_zero (class_in z order) s base (length old)
+      go None = refl
 
-  image_zero : (m : Named) → image_after m order s base 0 old ≡ zero.image_after m order s base old
+  image_zero : (m : Option Size) → image_after m order s base 0 old ≡ zero.image_after m order s base old
   unfolding image_after zero.image_after
-  image_zero (Is z) = changed_zero (class_in z order) base (targets (class_in z order) s base 0 (length old)) old ∙ rw (targets_zero (class_in z order) s base (length old))
-  image_zero Unknown = refl
+  image_zero (Some z) = changed_zero (class_in z order) base (targets (class_in z order) s base 0 (length old)) old ∙ rw (targets_zero (class_in z order) s base (length old))
+  image_zero None = refl
 
   module _ {r : Answer} {new : List ℕ} where
     pub relr_zero : Applies class order s base 0 old r new → zero.Applies class order s base old r new

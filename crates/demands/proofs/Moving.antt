@@ -26,7 +26,7 @@ use Rattle.word.specs.declared.Size.TheVariants.{Four, Eight}
 use Rattle.word.specs.declared.ByteOrder.{ByteOrder}
 use Rattle.word.specs.declared.ByteOrder.TheVariants.{Little, Big}
 use Rattle.word.specs.declared.Class.{Class}
-use Rattle.word.specs.declared.Named.{Named}
+use Rattle.std.specs.Prelude.{Option}
 use Rattle.word.specs.Class.{size_of, class_in, bits_of}
 use Rattle.word.specs.Class.Laws.{by_bytes, class_of_law}
 use Rattle.word.specs.Word.{value_of, bytes_in, arranged, word_at, with_word, first_words, words_of, Beside}
@@ -106,7 +106,7 @@ step_call : (z : Size) (order : ByteOrder) (s l : List ℕ) (base : ℕ) (old ne
     → Applies (size_of z) order s base 0 old r x → (r ≡ success (length l)) × (x ≡ new)
 step_call z order s l base old new (t, i) a = (
   a.answer ∙ answer_all (record { list = l; is = applying_is (size_of z) order s base 0 old (class_of_law z) ∙ t; long = refl }),
-  a.image ∙ ap (λ (n : Named). image_after n order s base 0 old) (class_of_law z) ∙ i,
+  a.image ∙ ap (λ (n : Option Size). image_after n order s base 0 old) (class_of_law z) ∙ i,
 )
 
 -- and so do three

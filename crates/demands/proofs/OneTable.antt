@@ -24,7 +24,7 @@ use Rattle.word.specs.declared.Size.{Size}
 use Rattle.word.specs.declared.Size.TheVariants.{Four, Eight}
 use Rattle.word.specs.declared.ByteOrder.{ByteOrder}
 use Rattle.word.specs.declared.ByteOrder.TheVariants.{Little, Big}
-use Rattle.word.specs.declared.Named.TheVariants.{Is}
+use Rattle.std.specs.Prelude.{Some}
 use Rattle.word.specs.Class.{width_of, size_of, class_in, class_of}
 use Rattle.word.specs.Class.Laws.{class_of_law}
 use Rattle.word.specs.Word.{value_of, bytes_in, arranged, first_words, words_of, bytes_of_words}
@@ -113,7 +113,7 @@ module _ (s t : List ℕ) (os₁ os₂ : List ℕ) (us₁ us₂ : List ℤ) {r q
 -- the same of a class
 record RellebList (class : ℕ) (s : List ℕ) (r : Answer) (os ts ys : List ℕ) (us : List ℤ) : Type 0 where
   z : Size
-  named : class_of class ≡ Is z
+  named : class_of class ≡ Some z
   list : List relleb.Row
   decodes : relleb.decode true (width_of z) s ≡ accepted list
   counted : r.count ≡ length list
@@ -167,7 +167,7 @@ module _ (class : ℕ) (s t : List ℕ) (os₁ ts₁ ys₁ : List ℕ) (us₁ : 
   relleb_one bs bt d e y z eo et ey eu =
       let a = relleb_list class s os₁ ts₁ ys₁ us₁ d y in
       let b = relleb_list class t os₂ ts₂ ys₂ us₂ e z in
-      let k : a.z ≡ b.z = (let q : Is a.z ≡ Is b.z = sym a.named ∙ b.named in cc) in
+      let k : a.z ≡ b.z = (let q : Some a.z ≡ Some b.z = sym a.named ∙ b.named in cc) in
       let l : a.list ≡ b.list = sym a.held ∙ rw (eo, et, ey, eu) b.held in
       one_table (relleb-converse.build_decode (width_of a.z) (relleb-laws.class_width a.z refl) s bs a.decodes)
       (ap₂ (λ (c : Size) (m : List relleb.Row). relleb.build (width_of c) m) k l ∙ relleb-converse.build_decode (width_of b.z) (relleb-laws.class_width b.z refl) t bt b.decodes)

@@ -26,9 +26,9 @@ use Rattle.leb128.specs.declared.Signed.TheVariants.{Value, Refused}
 use Rattle.leb128.specs.declared.Unsigned.{Unsigned}
 use Rattle.leb128.specs.declared.Unsigned.TheVariants.{Value as UValue, Refused as URefused}
 use Rattle.leb128.proofs.Setting.{lax_unsigned_law, lax_signed_law}
-use Rattle.word.specs.declared.Named.{Named}
+use Rattle.std.specs.Prelude.{Option}
 use Rattle.word.specs.declared.Size.{Size}
-use Rattle.word.specs.declared.Named.TheVariants.{Is, Unknown}
+use Rattle.std.specs.Prelude.{Some, None}
 use Rattle.word.specs.Class.{width_of, class_of, in_class}
 use Rattle.records.specs.Identifier.{starts_with}
 use Rattle.records.specs.Reading.{none}
@@ -164,9 +164,9 @@ module _ (class : ℕ) (s os ts ys : List ℕ) (us : List ℤ) {r : Answer} {os'
       even : Bool
       even = relleb-contract.even (length os) (length ts) (length ys) (length us)
 
-      go : (n : Named) → in_class n (λ z. cond even (relleb.decode false (width_of z) s) (refused Columns 0)) ≡ in_class n (λ z. cond even (relleb_decode (width_of z) s) (refused Columns 0))
-      go (Is z) = ap (λ (o : Outcome (List relleb.Row)). cond even o (refused Columns 0)) (relleb_before (width_of z) s)
-      go Unknown = refl
+      go : (n : Option Size) → in_class n (λ z. cond even (relleb.decode false (width_of z) s) (refused Columns 0)) ≡ in_class n (λ z. cond even (relleb_decode (width_of z) s) (refused Columns 0))
+      go (Some z) = ap (λ (o : Outcome (List relleb.Row)). cond even o (refused Columns 0)) (relleb_before (width_of z) s)
+      go None = refl
 
       as_before : relleb-contract.decoding class false s (length os) (length ts) (length ys) (length us) ≡ relleb_decoding class s (length os) (length ts) (length ys) (length us)
       as_before = go (class_of class)
@@ -212,13 +212,13 @@ module _ (s os : List ℕ) (us : List ℤ) {r r' : Answer} {os' os'' : List ℕ}
 -- what RELLEB's strict reading alone refuses, with its number, its place and the width of its class
 abbrev pub Only : ℕ → List ℕ → Answer → Type 0
 Only class s r =
-    (z : Size) × (class_of class ≡ Is z)
+    (z : Size) × (class_of class ≡ Some z)
     × (((r.number ≡ 18) × relleb-setting.Longer (width_of z) s r.place) ⊎ ((r.number ≡ 19) × relleb-setting.Unchanged (width_of z) s r.place))
 
 module _ (class : ℕ) (s os ts ys : List ℕ) (us : List ℤ) where
   -- what is said of such a refusal
   abbrev Spelled : Said
-  Spelled why p = (z : Size) × (class_of class ≡ Is z) × relleb-setting.Spelled (width_of z) s why p
+  Spelled why p = (z : Size) × (class_of class ≡ Some z) × relleb-setting.Spelled (width_of z) s why p
 
   -- what the two settings make of the class and the columns
   relleb_unless : Unless refused Spelled (relleb-contract.decoding class true s (length os) (length ts) (length ys) (length us)) (relleb-contract.decoding class false s (length os) (length ts) (length ys) (length us))
@@ -228,11 +228,11 @@ module _ (class : ℕ) (s os ts ys : List ℕ) (us : List ℤ) where
       even : Bool
       even = relleb-contract.even (length os) (length ts) (length ys) (length us)
 
-      go : (n : Named) → class_of class ≡ n → Unless refused Spelled (in_class n (λ z. cond even (relleb.decode true (width_of z) s) (refused Columns 0))) (in_class n (λ z. cond even (relleb.decode false (width_of z) s) (refused Columns 0)))
-      go (Is z) e =
+      go : (n : Option Size) → class_of class ≡ n → Unless refused Spelled (in_class n (λ z. cond even (relleb.decode true (width_of z) s) (refused Columns 0))) (in_class n (λ z. cond even (relleb.decode false (width_of z) s) (refused Columns 0)))
+      go (Some z) e =
           unless_map refused (relleb-setting.Spelled (width_of z) s) Spelled (λ why p h. (z, e, h))
           (unless_cond refused (relleb-setting.Spelled (width_of z) s) even (relleb.decode true (width_of z) s) (relleb.decode false (width_of z) s) (refused Columns 0) (relleb-setting.decode_unless true (width_of z) s))
-      go Unknown e = same refl
+      go None e = same refl
 
   only : (r : Answer) (why : Refusal) (p : ℕ) → r ≡ refusal why p → Spelled why p → Only class s r
   only r why p e (z, c, inl (w, l)) = let (n, at) = refused_at why p (relleb-setting.Longer (width_of z) s) e l in (z, c, inl (n ∙ ap number_of w, at))

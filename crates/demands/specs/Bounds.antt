@@ -5,8 +5,8 @@ use Rattle.answer.specs.declared.Answer.{Answer}
 use Rattle.answer.specs.Outcome.{input_limit, list_limit}
 use Rattle.records.specs.Columns.{Each}
 use Rattle.word.specs.declared.Size.{Size}
-use Rattle.word.specs.declared.Named.{Named}
-use Rattle.word.specs.declared.Named.TheVariants.{Is, Unknown}
+use Rattle.std.specs.Prelude.{Option}
+use Rattle.std.specs.Prelude.{Some, None}
 use Rattle.word.specs.Class.{size_of, width_of}
 
 -- ---- the longest lists that are read
@@ -44,9 +44,9 @@ abbrev pub relleb_bytes : ℕ
 relleb_bytes = 10 + 30 * list_limit
 
 -- a class's bound; where a number names no class, nothing is read or written
-abbrev pub in_named : (Size → ℕ) → Named → ℕ
-in_named f (Is z) = f z
-in_named f Unknown = 0
+abbrev pub in_named : (Size → ℕ) → Option Size → ℕ
+in_named f (Some z) = f z
+in_named f None = 0
 
 -- a column of u32
 abbrev pub U32 : List ℕ → Type 0

@@ -6,8 +6,8 @@ use Rattle.answer.specs.declared.Refusal.TheVariants.{Base}
 use Rattle.answer.specs.Outcome.{Outcome, accepted, refused, answer_of}
 use Rattle.word.specs.declared.ByteOrder.{ByteOrder}
 use Rattle.word.specs.declared.Class.{Class}
-use Rattle.word.specs.declared.Named.{Named}
-use Rattle.word.specs.declared.Named.TheVariants.{Is, Unknown}
+use Rattle.std.specs.Prelude.{Option}
+use Rattle.std.specs.Prelude.{Some, None}
 use Rattle.word.specs.Class.{class_in, bytes_of, class_of, in_class}
 use Rattle.relr_table.specs.Table.{decode, contained, above, patched}
 
@@ -29,9 +29,9 @@ changed k base (accepted l) image = patched k base l image
 changed k base (refused why p) image = image
 
 -- the same for the class that a number and an order name
-unfoldable pub image_after : Named → ByteOrder → List ℕ → ℕ → List ℕ → List ℕ
-image_after (Is z) order s base image = changed (class_in z order) base (targets (class_in z order) s base (length image)) image
-image_after Unknown order s base image = image
+unfoldable pub image_after : Option Size → ByteOrder → List ℕ → ℕ → List ℕ → List ℕ
+image_after (Some z) order s base image = changed (class_in z order) base (targets (class_in z order) s base (length image)) image
+image_after None order s base image = image
 
 -- `apply` of the table s answers r, and leaves `new` of an image that was `old`
 pub record Applies (class : ℕ) (order : ByteOrder) (s : List ℕ) (base : ℕ) (old : List ℕ) (r : Answer) (new : List ℕ) : Type 0 where

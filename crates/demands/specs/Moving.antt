@@ -6,7 +6,7 @@ use Rattle.answer.specs.Outcome.{accepted, success}
 use Rattle.word.specs.declared.Size.{Size}
 use Rattle.word.specs.declared.ByteOrder.{ByteOrder}
 use Rattle.word.specs.declared.Class.{Class}
-use Rattle.word.specs.declared.Named.TheVariants.{Is}
+use Rattle.std.specs.Prelude.{Some}
 use Rattle.word.specs.Class.{class_in, class_of}
 use Rattle.relr_table.specs.Table.{space_of, decode, Inside, All, Pairwise, targets}
 use Rattle.relr_table.specs.Contract.{image_after, Applies}
@@ -15,7 +15,7 @@ use Rattle.relr_table.specs.Contract.{image_after, Applies}
 -- P says
 pub record Movable (class : ℕ) (order : ByteOrder) (P : Class → ℕ → ℕ → Type 0) (s : List ℕ) (start size : ℕ) : Type 0 where
   pub z : Size
-  pub named : class_of class ≡ Is z
+  pub named : class_of class ≡ Some z
   pub list : List ℕ
   pub decodes : decode (class_in z order) s ≡ accepted list
   pub each : All (Inside (class_in z order) start size) list
@@ -47,7 +47,7 @@ pub record Succeed (first second third : Answer) (n : ℕ) : Type 0 where
 
 -- a base applied at every offset of the list l makes of the image `old`, which begins at 0, the image `new`
 abbrev pub Step : Size → ByteOrder → List ℕ → List ℕ → ℕ → List ℕ → List ℕ → Type 0
-Step z order s l base old new = (targets (class_in z order) s base 0 (length old) ≡ accepted l) × (image_after (Is z) order s base 0 old ≡ new)
+Step z order s l base old new = (targets (class_in z order) s base 0 (length old) ≡ accepted l) × (image_after (Some z) order s base 0 old ≡ new)
 
 -- the same for a, then b, and for their sum at once
 pub record Worked (z : Size) (order : ByteOrder) (s l : List ℕ) (a b : ℕ) (old mid new other : List ℕ) : Type 0 where

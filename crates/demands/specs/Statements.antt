@@ -6,7 +6,7 @@ use Rattle.answer.specs.Outcome.{accepted, success}
 use Rattle.word.specs.declared.Size.{Size}
 use Rattle.word.specs.declared.ByteOrder.{ByteOrder}
 use Rattle.word.specs.declared.Class.{Class}
-use Rattle.word.specs.declared.Named.TheVariants.{Is}
+use Rattle.std.specs.Prelude.{Some}
 use Rattle.word.specs.Class.{class_in, bytes_of, class_of}
 use Rattle.relr_table.specs.Table.{Inside, All, decode, indexes, patched}
 
@@ -29,7 +29,7 @@ Only n = (n ≡ 0) ⊎ ((n ≡ 2) ⊎ ((n ≡ 9) ⊎ (n ≡ 11)))
 -- the base is added, in order, to the word at each offset less the start
 pub record Applied (class : ℕ) (order : ByteOrder) (s : List ℕ) (base start : ℕ) (old : List ℕ) (r : Answer) (new : List ℕ) : Type 0 where
   pub z : Size
-  pub named : class_of class ≡ Is z
+  pub named : class_of class ≡ Some z
   pub list : List ℕ
   pub decodes : decode (class_in z order) s ≡ accepted list
   pub each : All (Inside (class_in z order) start (length old)) list
@@ -45,7 +45,7 @@ pub record First (k : Class) (start size : ℕ) (l : List ℕ) (i : ℕ) : Type 
 -- an apply that is refused for such an offset
 pub record Outside (class : ℕ) (order : ByteOrder) (s : List ℕ) (start : ℕ) (old : List ℕ) (r : Answer) (new : List ℕ) : Type 0 where
   pub z : Size
-  pub named : class_of class ≡ Is z
+  pub named : class_of class ≡ Some z
   pub list : List ℕ
   pub decodes : decode (class_in z order) s ≡ accepted list
   pub first : First (class_in z order) start (length old) list r.place

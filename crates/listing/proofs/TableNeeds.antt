@@ -29,7 +29,7 @@ use Rattle.relleb_table.specs.Contract.Laws as relleb-laws
 use Rattle.word.specs.Class.{width_of, class_of}
 use Rattle.word.specs.declared.Size.{Size}
 use Rattle.word.specs.declared.Size.TheVariants.{Four, Eight}
-use Rattle.word.specs.declared.Named.TheVariants.{Is}
+use Rattle.std.specs.Prelude.{Some}
 use Rattle.listing.specs.declared.kind.Kind.{Kind}
 use Rattle.listing.specs.declared.kind.Kind.TheVariants.{Relr32, Relr64, Apr1, Apa1, Relleb32, Relleb64}
 use Rattle.listing.specs.declared.kind.Line.{Line}
@@ -97,7 +97,7 @@ module _ (s os ts ys : List ℕ) (us : List ℤ) {k : Kind} {r : Answer} {os' : 
 
 -- ---- whole records
 module _ (s os ts ys : List ℕ) (us : List ℤ) {k : Kind} {r : Answer} {os' ts' ys' : List ℕ} {us' : List ℤ} (f : Readable s os ts ys us) where
-  whole_read : (size : ℕ) (z : Size) → class_of size ≡ Is z → rows_of k s ≡ relleb.decode false (width_of z) s
+  whole_read : (size : ℕ) (z : Size) → class_of size ≡ Some z → rows_of k s ≡ relleb.decode false (width_of z) s
       → relleb-contract.Reads size false s os ts ys us r os' ts' ys' us' → Reads k s r os' ts' ys' us'
   whole_read size c e w d =
       let same : relleb-contract.Same os ts ys us =

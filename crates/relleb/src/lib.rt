@@ -5,7 +5,7 @@ ghost use Rattle.std.specs.Prelude.{◌≡◌};
 ghost use Rattle.relleb_table.specs.Contract.{even, Reads, Writes};
 
 use answer::{Answer, Found, Refusal};
-use word::{Named, Size};
+use word::Size;
 
 // Whether four columns have one length.
 fn same_length(offsets: usize, types: usize, symbols: usize, addends: usize) -> bool
@@ -32,8 +32,7 @@ pub fn read(
 ) -> Answer
     ensures { Reads class strict table.now offsets.old types.old symbols.old addends.old result offsets.new types.new symbols.new addends.new }
 {
-    let named = Size::named(class);
-    let Named::Is(kind) = named else {
+    let Some(kind) = Size::named(class) else {
         return answer::refuse(Refusal::Class, 0);
     };
     if !same_length(offsets.len(), types.len(), symbols.len(), addends.len()) {
@@ -63,8 +62,7 @@ pub fn write(
 ) -> Answer
     ensures { Writes class offsets.now types.now symbols.now addends.now table.old result table.new }
 {
-    let named = Size::named(class);
-    let Named::Is(kind) = named else {
+    let Some(kind) = Size::named(class) else {
         return answer::refuse(Refusal::Class, 0);
     };
     if !same_length(offsets.len(), types.len(), symbols.len(), addends.len()) {

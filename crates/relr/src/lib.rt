@@ -4,14 +4,13 @@
 ghost use Rattle.relr_table.specs.Contract.{Reads, Writes, Applies};
 
 use answer::{Answer, Refusal};
-use word::{ByteOrder, Class, Named, Size};
+use word::{ByteOrder, Class, Size};
 
 // Reads the offsets of a table into a column.
 pub fn read(class: u32, order: ByteOrder, table: &[u8], offsets: &mut [u64]) -> Answer
     ensures { Reads class order table.now offsets.old result offsets.new }
 {
-    let named = Size::named(class);
-    let Named::Is(size) = named else {
+    let Some(size) = Size::named(class) else {
         return answer::refuse(Refusal::Class, 0);
     };
     relr_read::read_class(Class { size, order }, table, offsets)
@@ -21,8 +20,7 @@ pub fn read(class: u32, order: ByteOrder, table: &[u8], offsets: &mut [u64]) -> 
 pub fn write(class: u32, order: ByteOrder, offsets: &[u64], table: &mut [u8]) -> Answer
     ensures { Writes class order offsets.now table.old result table.new }
 {
-    let named = Size::named(class);
-    let Named::Is(size) = named else {
+    let Some(size) = Size::named(class) else {
         return answer::refuse(Refusal::Class, 0);
     };
     relr_write::write_class(Class { size, order }, offsets, table)
@@ -39,8 +37,7 @@ pub fn apply(
 ) -> Answer
     ensures { Applies class order table.now base start image.old result image.new }
 {
-    let named = Size::named(class);
-    let Named::Is(size) = named else {
+    let Some(size) = Size::named(class) else {
         return answer::refuse(Refusal::Class, 0);
     };
     relr_apply::apply_class(Class { size, order }, table, base, start, image)

@@ -9,15 +9,15 @@ use Rattle.answer.specs.Outcome.{refused, refusal, Gives}
 use Rattle.answer.specs.Outcome.Laws.{answer_none, gives_refused}
 use Rattle.word.specs.declared.Size.{Size}
 use Rattle.word.specs.declared.ByteOrder.{ByteOrder}
-use Rattle.word.specs.declared.Named.{Named}
-use Rattle.word.specs.declared.Named.TheVariants.{Is, Unknown}
+use Rattle.std.specs.Prelude.{Option}
+use Rattle.std.specs.Prelude.{Some, None}
 use Rattle.word.specs.Class.{class_in, class_of}
 use Rattle.relr_table.specs.Table.{decode, encode}
 use Rattle.relr_table.specs.Contract.{decoding, Reads, encoding, Writes, WritesIn, applying, image_after, Applies, AppliesIn}
 
 -- ---- the outcomes
-module _ (class : ℕ) (order : ByteOrder) {n : Named} (e : n ≡ class_of class) where
-  module _ (u : n ≡ Unknown) where
+module _ (class : ℕ) (order : ByteOrder) {n : Option Size} (e : n ≡ class_of class) where
+  module _ (u : n ≡ None) where
     pub decoding_unknown : (s : List ℕ) → decoding class order s ≡ refused why.Class 0
     unfolding decoding
     decoding_unknown s = rw (← e, u)
@@ -26,7 +26,7 @@ module _ (class : ℕ) (order : ByteOrder) {n : Named} (e : n ≡ class_of class
     unfolding encoding
     encoding_unknown l = rw (← e, u)
 
-  module _ {z : Size} (u : n ≡ Is z) where
+  module _ {z : Size} (u : n ≡ Some z) where
     pub decoding_is : (s : List ℕ) → decoding class order s ≡ decode (class_in z order) s
     unfolding decoding
     decoding_is s = rw (← e, u)
@@ -36,8 +36,8 @@ module _ (class : ℕ) (order : ByteOrder) {n : Named} (e : n ≡ class_of class
     encoding_is l = rw (← e, u)
 
 -- ---- the calls
-module _ (class : ℕ) (order : ByteOrder) (l old : List ℕ) {n : Named} (e : n ≡ class_of class) {a : Answer} where
-  module _ (u : n ≡ Unknown) (q : a ≡ refusal why.Class 0) where
+module _ (class : ℕ) (order : ByteOrder) (l old : List ℕ) {n : Option Size} (e : n ≡ class_of class) {a : Answer} where
+  module _ (u : n ≡ None) (q : a ≡ refusal why.Class 0) where
     pub reads_unknown : Reads class order l old a old
     reads_unknown = gives_refused old q (decoding_unknown class order e u l)
 
@@ -51,10 +51,10 @@ module _ (class : ℕ) (order : ByteOrder) (l old : List ℕ) {n : Named} (e : n
     pub applies_unknown : (base start : ℕ) → Applies class order l base start old a old
     unfolding applying image_after
     applies_unknown base start =
-        let c : class_of class ≡ Unknown = sym e ∙ u in
+        let c : class_of class ≡ None = sym e ∙ u in
         record { answer = q ∙ rw c (sym (answer_none refl)); image = rw c }
 
-  module _ {z : Size} (u : n ≡ Is z) {new : List ℕ} where
+  module _ {z : Size} (u : n ≡ Some z) {new : List ℕ} where
     pub reads_named : Gives (decode (class_in z order) l) old a new → Reads class order l old a new
     reads_named g = rw (decoding_is class order e u l) g
 
@@ -68,7 +68,7 @@ module _ (class : ℕ) (order : ByteOrder) (l old : List ℕ) {n : Named} (e : n
     pub applies_named : (base start : ℕ) → AppliesIn (class_in z order) l base start old a new → Applies class order l base start old a new
     unfolding applying image_after
     applies_named base start r =
-        let c : class_of class ≡ Is z = sym e ∙ u in
+        let c : class_of class ≡ Some z = sym e ∙ u in
         record { answer = rw c r.answer; image = rw c r.image }
 
 -- ---- one order by two names
