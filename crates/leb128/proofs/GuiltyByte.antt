@@ -17,11 +17,12 @@ use Rattle.answer.specs.Bytes.{Bytes, bytes_drop}
 use Rattle.answer.specs.declared.Refusal.TheVariants.{Width}
 use Rattle.leb128.specs.Number.{Raw, cut, long, got, raw, count, last_place, unsigned_of, lax_unsigned, signed, signed_of, lax_signed}
 use Rattle.leb128.specs.LastByte.{last_unsigned, last_signed, BadUnsigned, BadSigned, Guilty}
-use Rattle.leb128.specs.declared.Unsigned.TheVariants.{Value as UValue, Refused as URefused}
-use Rattle.leb128.specs.declared.Signed.TheVariants.{Value as SValue, Refused as SRefused}
 use Rattle.leb128.proofs.Reading.{count_is, next_le, Spent, spent_there, spent_unsigned, spent_signed}
 use Rattle.leb128.proofs.Laws.{Below, below}
 use Rattle.leb128.proofs.LastByte.{Digits, takes_unsigned, refuses_unsigned, takes_signed, refuses_signed}
+use Rattle.answer.specs.Outcome.{err_at}
+use Rattle.answer.specs.Outcome.Laws.{err_parts}
+use Rattle.leb128.specs.Number.{ok_at}
 
 -- the bytes before the last allowed one
 digits_take : (j : ℕ) (l : List ℕ) → Bytes l → j ≤ length l → ((i : ℕ) → i < j → 128 ≤ get_or l i 0) → Digits (take j l)
@@ -85,7 +86,7 @@ module _ (B : ℕ) (s : List ℕ) (at : ℕ) (wide : 0 < B) (bytes : Bytes s) wh
     place_is : at + length ds ≡ last_place B at
     place_is = omega (arith, size)
 
-    bad_unsigned : lax_unsigned B s at ≡ URefused Width (last_place B at) → BadUnsigned B b
+    bad_unsigned : lax_unsigned B s at ≡ err_at Width (last_place B at) → BadUnsigned B b
     bad_unsigned e =
         elim (dec_lt b (last_unsigned B)) [
           | yes h ↦
@@ -95,16 +96,16 @@ module _ (B : ℕ) (s : List ℕ) (at : ℕ) (wide : 0 < B) (bytes : Bytes s) wh
           | no h ↦ omega arith
         ]
 
-    unsigned_bad : BadUnsigned B b → lax_unsigned B s at ≡ URefused Width (last_place B at)
-    unsigned_bad h = refuses_unsigned B s at b ds rest here wide digits sizes h ∙ ap (URefused Width) place_is
+    unsigned_bad : BadUnsigned B b → lax_unsigned B s at ≡ err_at Width (last_place B at)
+    unsigned_bad h = refuses_unsigned B s at b ds rest here wide digits sizes h ∙ ap (err_at Width) place_is
 
-    not_taken : lax_signed B s at ≡ SRefused Width (last_place B at) → (b < last_signed B) ⊎ ((128 - last_signed B ≤ b) × (b < 128)) → ⊥
+    not_taken : lax_signed B s at ≡ err_at Width (last_place B at) → (b < last_signed B) ⊎ ((128 - last_signed B ≤ b) × (b < 128)) → ⊥
     not_taken e h =
         let f = takes_signed B s at b ds rest here wide digits sizes h in
         let z : ◌≡◌ {A = ℕ} 0 1 = cc in
         omega arith
 
-    bad_signed : lax_signed B s at ≡ SRefused Width (last_place B at) → BadSigned B b
+    bad_signed : lax_signed B s at ≡ err_at Width (last_place B at) → BadSigned B b
     bad_signed e =
         elim (dec_lt b 128) [
           | no h ↦ inl (omega arith)
@@ -119,33 +120,33 @@ module _ (B : ℕ) (s : List ℕ) (at : ℕ) (wide : 0 < B) (bytes : Bytes s) wh
               ]
         ]
 
-    signed_bad : BadSigned B b → lax_signed B s at ≡ SRefused Width (last_place B at)
-    signed_bad h = refuses_signed B s at b ds rest here wide digits sizes h ∙ ap (SRefused Width) place_is
+    signed_bad : BadSigned B b → lax_signed B s at ≡ err_at Width (last_place B at)
+    signed_bad h = refuses_signed B s at b ds rest here wide digits sizes h ∙ ap (err_at Width) place_is
 
   -- a 5 is at the last place, after as many bytes as the width allows
-  outside_unsigned : {p : ℕ} (r : Raw) → raw (count B) (drop at s) ≡ r → unsigned_of B (length s) at r ≡ URefused Width p → (p ≡ last_place B at) × Spent (count B) r
-  outside_unsigned cut e f = let z : ◌≡◌ {A = ℕ} 0 1 = cc in absurd (omega arith)
-  outside_unsigned long e f = (cc, tt)
+  outside_unsigned : {p : ℕ} (r : Raw) → raw (count B) (drop at s) ≡ r → unsigned_of B (length s) at r ≡ err_at Width p → (p ≡ last_place B at) × Spent (count B) r
+  outside_unsigned cut e f = let (w, q) = err_parts f in let z : ◌≡◌ {A = ℕ} 0 1 = cc in absurd (omega arith)
+  outside_unsigned long e f = (sym (err_parts f).1, tt)
   outside_unsigned {p} (got v k) e f = go (ltb v (2 ^ B)) refl f
     where
-      go : (t : Bool) → ltb v (2 ^ B) ≡ t → cond t (UValue v (at + k)) (URefused Width (last_place B at)) ≡ URefused Width p → (p ≡ last_place B at) × (count B ≤ k)
+      go : (t : Bool) → ltb v (2 ^ B) ≡ t → cond t (ok_at v (at + k)) (err_at Width (last_place B at)) ≡ err_at Width p → (p ≡ last_place B at) × (count B ≤ k)
       go true g h = let z : ◌≡◌ {A = ℕ} 0 1 = cc in absurd (omega arith)
       go false g h =
           let l : v < 2 ^ (7 * k) = subst Below e (below (count B) (drop at s) (bytes_drop at s bytes)) in
-          (cc, spent_unsigned B v k l (ltb-false v (2 ^ B) g))
+          (sym (err_parts h).1, spent_unsigned B v k l (ltb-false v (2 ^ B) g))
 
-  outside_signed : {p : ℕ} (r : Raw) → raw (count B) (drop at s) ≡ r → signed_of B (length s) at r ≡ SRefused Width p → (p ≡ last_place B at) × Spent (count B) r
-  outside_signed cut e f = let z : ◌≡◌ {A = ℕ} 0 1 = cc in absurd (omega arith)
-  outside_signed long e f = (cc, tt)
+  outside_signed : {p : ℕ} (r : Raw) → raw (count B) (drop at s) ≡ r → signed_of B (length s) at r ≡ err_at Width p → (p ≡ last_place B at) × Spent (count B) r
+  outside_signed cut e f = let (w, q) = err_parts f in let z : ◌≡◌ {A = ℕ} 0 1 = cc in absurd (omega arith)
+  outside_signed long e f = (sym (err_parts f).1, tt)
   outside_signed {p} (got v k) e f = go (ltb (mag (signed v k)) (2 ^ (B - 1))) refl f
     where
-      go : (t : Bool) → ltb (mag (signed v k)) (2 ^ (B - 1)) ≡ t → cond t (SValue (signed v k) (at + k)) (SRefused Width (last_place B at)) ≡ SRefused Width p
+      go : (t : Bool) → ltb (mag (signed v k)) (2 ^ (B - 1)) ≡ t → cond t (ok_at (signed v k) (at + k)) (err_at Width (last_place B at)) ≡ err_at Width p
           → (p ≡ last_place B at) × (count B ≤ k)
       go true g h = let z : ◌≡◌ {A = ℕ} 0 1 = cc in absurd (omega arith)
       go false g h =
           let l : v < 2 ^ (7 * k) = subst Below e (below (count B) (drop at s) (bytes_drop at s bytes)) in
           let n = next_le (count B) s at v k e in
-          (cc, spent_signed B v k wide (omega (arith, n.0)) l (ltb-false (mag (signed v k)) (2 ^ (B - 1)) g))
+          (sym (err_parts h).1, spent_signed B v k wide (omega (arith, n.0)) l (ltb-false (mag (signed v k)) (2 ^ (B - 1)) g))
 
   -- what stands of such a number, with a byte that may not be the last, is a guilty one, and the other way round
   guilty : {Bad : ℕ → ℕ → Type 0} {p : ℕ} → p ≡ last_place B at → Full B s at → Bad B (get_or s (last_place B at) 0) → Guilty Bad B s at p
@@ -157,22 +158,22 @@ module _ (B : ℕ) (s : List ℕ) (at : ℕ) (wide : 0 < B) (bytes : Bytes s) wh
       (record { inside = rw is at g.inside; before = rw is at g.before }, rw is at g.bad)
 
   -- a number is refused with 5 exactly at a guilty byte
-  pub unsigned_guilty : {p : ℕ} → lax_unsigned B s at ≡ URefused Width p → Guilty BadUnsigned B s at p
+  pub unsigned_guilty : {p : ℕ} → lax_unsigned B s at ≡ err_at Width p → Guilty BadUnsigned B s at p
   unfolding lax_unsigned
   unsigned_guilty e =
       let (is, spent) = outside_unsigned (raw (count B) (drop at s)) refl e in
       let full = spent_full spent in
-      guilty is full (bad_unsigned full (e ∙ ap (URefused Width) is))
+      guilty is full (bad_unsigned full (e ∙ ap (err_at Width) is))
 
-  pub guilty_unsigned : {p : ℕ} → Guilty BadUnsigned B s at p → lax_unsigned B s at ≡ URefused Width p
-  guilty_unsigned g = let (full, h) = guilty_full g in unsigned_bad full h ∙ ap (URefused Width) (sym g.last)
+  pub guilty_unsigned : {p : ℕ} → Guilty BadUnsigned B s at p → lax_unsigned B s at ≡ err_at Width p
+  guilty_unsigned g = let (full, h) = guilty_full g in unsigned_bad full h ∙ ap (err_at Width) (sym g.last)
 
-  pub signed_guilty : {p : ℕ} → lax_signed B s at ≡ SRefused Width p → Guilty BadSigned B s at p
+  pub signed_guilty : {p : ℕ} → lax_signed B s at ≡ err_at Width p → Guilty BadSigned B s at p
   unfolding lax_signed
   signed_guilty e =
       let (is, spent) = outside_signed (raw (count B) (drop at s)) refl e in
       let full = spent_full spent in
-      guilty is full (bad_signed full (e ∙ ap (SRefused Width) is))
+      guilty is full (bad_signed full (e ∙ ap (err_at Width) is))
 
-  pub guilty_signed : {p : ℕ} → Guilty BadSigned B s at p → lax_signed B s at ≡ SRefused Width p
-  guilty_signed g = let (full, h) = guilty_full g in signed_bad full h ∙ ap (SRefused Width) (sym g.last)
+  pub guilty_signed : {p : ℕ} → Guilty BadSigned B s at p → lax_signed B s at ≡ err_at Width p
+  guilty_signed g = let (full, h) = guilty_full g in signed_bad full h ∙ ap (err_at Width) (sym g.last)

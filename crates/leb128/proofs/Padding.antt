@@ -22,11 +22,11 @@ use Rattle.answer.specs.declared.Refusal.{Refusal}
 use Rattle.answer.specs.declared.Refusal.TheVariants.{Padded}
 use Rattle.leb128.specs.Number.{got, more, raw, lax_unsigned, signed, lax_signed, short, short_unsigned, is_neg, short_signed, padded, unpadded_unsigned, unpadded_signed, read_unsigned, read_signed}
 use Rattle.leb128.specs.Inner.{Ending, Standing}
-use Rattle.leb128.specs.declared.Unsigned.TheVariants.{Value as UValue, Refused as URefused}
-use Rattle.leb128.specs.declared.Signed.TheVariants.{Value as SValue, Refused as SRefused}
 use Rattle.leb128.proofs.Reading.{signed_pos, signed_neg, next_le, rest_of}
 use Rattle.leb128.proofs.RoundTrip.{pow_suc7}
 use Rattle.leb128.proofs.Writing.{short_some, short_le, short_gt}
+use Rattle.answer.specs.Outcome.{err_at}
+use Rattle.leb128.specs.Number.{ok_at}
 
 -- ---- a form of n bytes against the shortest
 pub padded_not : (t : Bool) (l : List ℕ) (n : ℕ) → n ≤ length l → padded t l n ≡ false
@@ -236,28 +236,28 @@ module _ (t : Bool) (B : ℕ) (s : List ℕ) (at : ℕ) where
   size : (n : ℕ) → at + n - at ≡ n
   size n = omega arith
 
-  pub kept_unsigned : {why : Refusal} {p : ℕ} → URefused why p ≡ lax_unsigned B s at → URefused why p ≡ read_unsigned t B s at
+  pub kept_unsigned : {why : Refusal} {p : ℕ} → err_at why p ≡ lax_unsigned B s at → err_at why p ≡ read_unsigned t B s at
   unfolding read_unsigned
   kept_unsigned e = ap (unpadded_unsigned t at) e
 
-  pub kept_signed : {why : Refusal} {p : ℕ} → SRefused why p ≡ lax_signed B s at → SRefused why p ≡ read_signed t B s at
+  pub kept_signed : {why : Refusal} {p : ℕ} → err_at why p ≡ lax_signed B s at → err_at why p ≡ read_signed t B s at
   unfolding read_signed
   kept_signed e = ap (unpadded_signed t at) e
 
-  module _ (n : ℕ) {v : ℕ} (e : UValue v (at + n) ≡ lax_unsigned B s at) where
-    pub value_unsigned : padded t (short_unsigned v) n ≡ false → UValue v (at + n) ≡ read_unsigned t B s at
+  module _ (n : ℕ) {v : ℕ} (e : ok_at v (at + n) ≡ lax_unsigned B s at) where
+    pub value_unsigned : padded t (short_unsigned v) n ≡ false → ok_at v (at + n) ≡ read_unsigned t B s at
     unfolding read_unsigned
     value_unsigned h = sym (rw (← e, size n, h))
 
-    pub longer_unsigned : padded t (short_unsigned v) n ≡ true → URefused Padded at ≡ read_unsigned t B s at
+    pub longer_unsigned : padded t (short_unsigned v) n ≡ true → err_at Padded at ≡ read_unsigned t B s at
     unfolding read_unsigned
     longer_unsigned h = sym (rw (← e, size n, h))
 
-  module _ (n : ℕ) {z : ℤ} (e : SValue z (at + n) ≡ lax_signed B s at) where
-    pub value_signed : padded t (short_signed z) n ≡ false → SValue z (at + n) ≡ read_signed t B s at
+  module _ (n : ℕ) {z : ℤ} (e : ok_at z (at + n) ≡ lax_signed B s at) where
+    pub value_signed : padded t (short_signed z) n ≡ false → ok_at z (at + n) ≡ read_signed t B s at
     unfolding read_signed
     value_signed h = sym (rw (← e, size n, h))
 
-    pub longer_signed : padded t (short_signed z) n ≡ true → SRefused Padded at ≡ read_signed t B s at
+    pub longer_signed : padded t (short_signed z) n ≡ true → err_at Padded at ≡ read_signed t B s at
     unfolding read_signed
     longer_signed h = sym (rw (← e, size n, h))

@@ -13,14 +13,15 @@ use lib.Signed.{mag}
 use borrow.Author.Tests.{ltb-false}
 use Rattle.answer.specs.Bytes.{Bytes, bytes_drop, bytes_append}
 use Rattle.leb128.specs.Number.{Raw, cut, long, got, more, raw, count, last_place, unsigned_of, lax_unsigned, signed, signed_of, lax_signed, short, short_by, short_unsigned, is_neg, short_signed, read_unsigned, read_signed}
-use Rattle.leb128.specs.declared.Unsigned.TheVariants.{Value as UValue, Refused as URefused}
-use Rattle.leb128.specs.declared.Signed.TheVariants.{Value as SValue, Refused as SRefused}
 use Rattle.answer.specs.declared.Refusal.TheVariants.{Width}
 use Rattle.leb128.proofs.Reading.{Ends, ends, rest_of}
 use Rattle.leb128.proofs.Writing.{turn_lt, digit_ind, short_end, short_more}
 use Rattle.leb128.proofs.RoundTrip.{val, raw_short, signed_short, unsigned_bytes, signed_bytes}
 use Rattle.leb128.proofs.Laws.{Below, below, shortest_unsigned, shortest_signed}
 use Rattle.leb128.proofs.Setting.{read_lax_unsigned, read_lax_signed, unsigned_value, signed_value, strict_most_unsigned, strict_most_signed}
+use Rattle.answer.specs.Outcome.{err_at}
+use Rattle.leb128.specs.Number.{ok_at}
+use Rattle.leb128.proofs.Reading.{ok_parts}
 
 -- ---- the bytes of a number are fixed by how many they are and what they make
 -- a digit more than one is more than one
@@ -83,22 +84,22 @@ record Made (r : Raw) (at next : ℕ) : Type 0 where
   place : next ≡ at + size
 
 module _ (B end at : ℕ) where
-  made_unsigned : (r : Raw) {v next : ℕ} → unsigned_of B end at r ≡ UValue v next → (m : Made r at next) × (m.value ≡ v)
+  made_unsigned : (r : Raw) {v next : ℕ} → unsigned_of B end at r ≡ ok_at v next → (m : Made r at next) × (m.value ≡ v)
   made_unsigned cut e = let z : ◌≡◌ {A = ℕ} 0 1 = cc in absurd (omega arith)
   made_unsigned long e = let z : ◌≡◌ {A = ℕ} 0 1 = cc in absurd (omega arith)
   made_unsigned (got u k) {v} {next} e = go (ltb u (2 ^ B)) e
     where
-      go : (t : Bool) → cond t (UValue u (at + k)) (URefused Width (last_place B at)) ≡ UValue v next → (m : Made (got u k) at next) × (m.value ≡ v)
-      go true e = (record { value = u; size = k; is = refl; place = cc }, cc)
+      go : (t : Bool) → cond t (ok_at u (at + k)) (err_at Width (last_place B at)) ≡ ok_at v next → (m : Made (got u k) at next) × (m.value ≡ v)
+      go true e = (let (a, b) = ok_parts e in (record { value = u; size = k; is = refl; place = sym b }, a))
       go false e = let z : ◌≡◌ {A = ℕ} 0 1 = cc in absurd (omega arith)
 
-  made_signed : (r : Raw) {z : ℤ} {next : ℕ} → signed_of B end at r ≡ SValue z next → (m : Made r at next) × (signed m.value m.size ≡ z)
+  made_signed : (r : Raw) {z : ℤ} {next : ℕ} → signed_of B end at r ≡ ok_at z next → (m : Made r at next) × (signed m.value m.size ≡ z)
   made_signed cut e = let o : ◌≡◌ {A = ℕ} 0 1 = cc in absurd (omega arith)
   made_signed long e = let o : ◌≡◌ {A = ℕ} 0 1 = cc in absurd (omega arith)
   made_signed (got u k) {z} {next} e = go (ltb (mag (signed u k)) (2 ^ (B - 1))) e
     where
-      go : (t : Bool) → cond t (SValue (signed u k) (at + k)) (SRefused Width (last_place B at)) ≡ SValue z next → (m : Made (got u k) at next) × (signed m.value m.size ≡ z)
-      go true e = (record { value = u; size = k; is = refl; place = cc }, cc)
+      go : (t : Bool) → cond t (ok_at (signed u k) (at + k)) (err_at Width (last_place B at)) ≡ ok_at z next → (m : Made (got u k) at next) × (signed m.value m.size ≡ z)
+      go true e = (let (a, b) = ok_parts e in (record { value = u; size = k; is = refl; place = sym b }, a))
       go false e = let o : ◌≡◌ {A = ℕ} 0 1 = cc in absurd (omega arith)
 
 -- ---- the bytes of a number that is accepted strictly: its shortest form, and then what stands behind it
@@ -111,7 +112,7 @@ module _ (B : ℕ) (s : List ℕ) (at : ℕ) (wide : 0 < B) (bytes : Bytes s) wh
       let g : take k (form ++ []) ≡ form = ap (λ (x : ℕ). take x (form ++ [])) (sym l) ∙ take-append_seam form [] in
       sym (take-append-drop k (drop at s)) ∙ ap₂ ◌++◌ (h ∙ g) (drop-drop k at s ∙ ap (λ (x : ℕ). drop x s) (sym n))
 
-  pub strict_unsigned : {v next : ℕ} → read_unsigned true B s at ≡ UValue v next → drop at s ≡ short_unsigned v ++ drop next s
+  pub strict_unsigned : {v next : ℕ} → read_unsigned true B s at ≡ ok_at v next → drop at s ≡ short_unsigned v ++ drop next s
   unfolding lax_unsigned
   strict_unsigned {v} {next} e =
       let lax = read_lax_unsigned true B s at e in
@@ -121,7 +122,7 @@ module _ (B : ℕ) (s : List ℕ) (at : ℕ) (wide : 0 < B) (bytes : Bytes s) wh
       (raw_short 128 (lit< tt) (lit≤ tt) false [] v (count B) (unsigned_bytes B v wide (unsigned_value true B s at v next e).0) ∙ ap (got v) k)
       (short_bytes 128 (lit< tt) (lit≤ tt) false v) k m.place
 
-  pub strict_signed : {z : ℤ} {next : ℕ} → read_signed true B s at ≡ SValue z next → drop at s ≡ short_signed z ++ drop next s
+  pub strict_signed : {z : ℤ} {next : ℕ} → read_signed true B s at ≡ ok_at z next → drop at s ≡ short_signed z ++ drop next s
   unfolding lax_signed
   strict_signed {z} {next} e =
       let lax = read_lax_signed true B s at e in

@@ -2,19 +2,18 @@
 -- Assumes nothing.
 use Rattle.std.specs.Prelude.{ℕ, ◌+◌, ◌<◌, ◌≡◌, List, length, ℤ}
 use Rattle.leb128.specs.Number.{lax_unsigned, lax_signed, short_unsigned, short_signed}
-use Rattle.leb128.specs.declared.Unsigned.TheVariants.{Value as UValue}
-use Rattle.leb128.specs.declared.Signed.TheVariants.{Value as SValue}
+use Rattle.leb128.specs.Number.{ok_at}
 
 -- an unsigned number of B bits
 pub record LongerUnsigned (B : ℕ) (s : List ℕ) (at : ℕ) : Type 0 where
   pub value : ℕ
   pub next : ℕ
-  pub read : lax_unsigned B s at ≡ UValue value next
+  pub read : lax_unsigned B s at ≡ ok_at value next
   pub longer : at + length (short_unsigned value) < next
 
 -- a signed one
 pub record LongerSigned (B : ℕ) (s : List ℕ) (at : ℕ) : Type 0 where
   pub value : ℤ
   pub next : ℕ
-  pub read : lax_signed B s at ≡ SValue value next
+  pub read : lax_signed B s at ≡ ok_at value next
   pub longer : at + length (short_signed value) < next

@@ -8,10 +8,10 @@ use lib.ListN.{length}
 use Rattle.answer.specs.declared.Refusal.TheVariants.{Trailing}
 use Rattle.answer.specs.Outcome.{accepted, refused}
 use Rattle.answer.specs.Said.{OfList, of_cond, list_map, list_before}
-use Rattle.leb128.specs.declared.Unsigned.{Unsigned}
-use Rattle.leb128.specs.declared.Unsigned.TheVariants.{Value, Refused}
 use Rattle.records.specs.Columns.{Each}
 use Rattle.records.specs.Reading.{Step, one, none, step_then, records, counted}
+use Rattle.std.specs.Prelude.{Ok, Err}
+use Rattle.leb128.specs.Number.{Unsigned}
 
 -- a record takes at least m bytes, and ends at `long` or before
 abbrev pub Moves : {S A : Type 0} → ℕ → ℕ → ℕ → Step S A → Type 0
@@ -20,8 +20,8 @@ Moves m long at (none why p) = Unit {0}
 
 -- a count that was read ends there too
 abbrev pub Ends : ℕ → Unsigned → Type 0
-Ends long (Value n first) = first ≤ long
-Ends long (Refused why p) = Unit {0}
+Ends long (Ok (n , first)) = first ≤ long
+Ends long (Err e) = Unit {0}
 
 -- a record that was read is so
 abbrev pub Yields : {S A : Type 0} → (A → Type 0) → Step S A → Type 0
@@ -44,9 +44,9 @@ module _ {S A : Type 0} (step : ℕ → S → Step S A) (end : ℕ) where
 
     pub counted_most : (st : S) (u : Unsigned) → Ends long u → OfList (λ (l : List A). m * length l ≤ long) (counted step end st u)
     unfolding counted
-    counted_most st (Value n first) h =
+    counted_most st (Ok (n , first)) h =
         list_map (λ (l : List A). first + m * length l ≤ long) (λ (l : List A). m * length l ≤ long) (records step end n first st) (λ l q. omega arith) (records_most n first st h)
-    counted_most st (Refused why p) h = tt
+    counted_most st (Err e) h = tt
 
   pub records_each : (Q : A → Type 0) → ((at : ℕ) (st : S) → Yields Q (step at st)) → (n at : ℕ) (st : S) → OfList (Each Q) (records step end n at st)
   unfolding records step_then

@@ -10,12 +10,13 @@ use borrow.Author.Tests.{ltb-false}
 use Rattle.answer.specs.declared.Refusal.TheVariants.{Trailing}
 use Rattle.answer.specs.Outcome.{Outcome, accepted, refused, before, after}
 use Rattle.answer.specs.Outcome.Laws.{accepted_refused}
-use Rattle.leb128.specs.declared.Unsigned.{Unsigned}
-use Rattle.leb128.specs.declared.Unsigned.TheVariants.{Value, Refused}
 use Rattle.records.proofs.Writing.{after_accepted}
 use Rattle.records.specs.Reading.{Step, one, none, step_then, records, counted}
 use Rattle.records.specs.Writing.{Put, bytes, puts}
 use Rattle.records.specs.Writing.Laws.{puts_more, puts_end}
+use Rattle.std.specs.Prelude.{Ok, Err}
+use Rattle.leb128.specs.Number.{Unsigned}
+use Rattle.leb128.specs.Number.{ok_at}
 
 -- ---- what an accepted reading is made of
 -- the first record, and those of the rest
@@ -76,10 +77,10 @@ module _ {S A : Type 0} (step : ℕ → S → Step S A) (put : S → A → Put) 
 
   -- so of a whole table: what a count announces, behind a head that stands there as it is written for so many records
   module _ (head_of : ℕ → List ℕ) (st : S) (good : Good st) {l : List A} where
-    pub forth_counted : (u : Unsigned) → ((n first : ℕ) → u ≡ Value n first → s ≡ head_of n ++ drop first s) → counted step (length s) st u ≡ accepted l
+    pub forth_counted : (u : Unsigned) → ((n first : ℕ) → u ≡ ok_at n first → s ≡ head_of n ++ drop first s) → counted step (length s) st u ≡ accepted l
         → after (head_of (length l)) (puts put next 0 st l) ≡ accepted s
     unfolding counted
-    forth_counted (Value n first) heads e =
+    forth_counted (Ok (n , first)) heads e =
         let (p, m) = forth n first 0 st good e in
         after_accepted (head_of (length l)) p ∙ ap accepted (ap (λ (k : ℕ). head_of k ++ drop first s) m ∙ sym (heads n first refl))
-    forth_counted (Refused why p) heads e = absurd (accepted_refused e refl)
+    forth_counted (Err x) heads e = absurd (accepted_refused e refl)

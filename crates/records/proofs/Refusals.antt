@@ -12,13 +12,12 @@ use Rattle.answer.specs.declared.Refusal.{Refusal}
 use Rattle.answer.specs.declared.Refusal.TheVariants.{Width, Trailing}
 use Rattle.answer.specs.Outcome.{number_of, accepted, refused}
 use Rattle.answer.specs.Said.{Said, OfOutcome, of_before, of_after}
-use Rattle.leb128.specs.declared.Unsigned.{Unsigned}
-use Rattle.leb128.specs.declared.Unsigned.TheVariants as unsigned
-use Rattle.leb128.specs.declared.Signed.{Signed}
-use Rattle.leb128.specs.declared.Signed.TheVariants as signed
 use Rattle.records.specs.Reading.{Step, one, none, step_then, records, counted}
 use Rattle.records.specs.Writing.{Put, bytes, put_then, puts}
 use Rattle.records.specs.Writing as Writing
+use Rattle.std.specs.Prelude.{Ok, Err}
+use Rattle.answer.specs.Outcome.{err_at}
+use Rattle.leb128.specs.Number.{Unsigned, Signed}
 
 -- what is said of refusal 5 alone: nothing of the others
 abbrev pub OfFive : (ℕ → Type 0) → Said
@@ -29,24 +28,24 @@ another T why p h e = absurd (h (ap number_of e))
 
 -- where something was read, nothing is said
 abbrev pub OfUnsigned : Said → Unsigned → Type 0
-OfUnsigned P (unsigned.Value v next) = Unit {0}
-OfUnsigned P (unsigned.Refused why p) = P why p
+OfUnsigned P (Ok (v , next)) = Unit {0}
+OfUnsigned P (Err e) = P e.why e.place
 
 abbrev pub OfSigned : Said → Signed → Type 0
-OfSigned P (signed.Value z next) = Unit {0}
-OfSigned P (signed.Refused why p) = P why p
+OfSigned P (Ok (z , next)) = Unit {0}
+OfSigned P (Err e) = P e.why e.place
 
 abbrev pub OfStep : {S A : Type 0} → Said → Step S A → Type 0
 OfStep P (one x past st) = Unit {0}
 OfStep P (none why p) = P why p
 
-pub of_unsigned : (P : Said) (u : Unsigned) → ((why : Refusal) (p : ℕ) → u ≡ unsigned.Refused why p → P why p) → OfUnsigned P u
-of_unsigned P (unsigned.Value v next) h = tt
-of_unsigned P (unsigned.Refused why p) h = h why p refl
+pub of_unsigned : (P : Said) (u : Unsigned) → ((why : Refusal) (p : ℕ) → u ≡ err_at why p → P why p) → OfUnsigned P u
+of_unsigned P (Ok (v , next)) h = tt
+of_unsigned P (Err e) h = h e.why e.place refl
 
-pub of_signed : (P : Said) (u : Signed) → ((why : Refusal) (p : ℕ) → u ≡ signed.Refused why p → P why p) → OfSigned P u
-of_signed P (signed.Value z next) h = tt
-of_signed P (signed.Refused why p) h = h why p refl
+pub of_signed : (P : Said) (u : Signed) → ((why : Refusal) (p : ℕ) → u ≡ err_at why p → P why p) → OfSigned P u
+of_signed P (Ok (z , next)) h = tt
+of_signed P (Err e) h = h e.why e.place refl
 
 module _ {S A : Type 0} (P : Said) (step : ℕ → S → Step S A) (end : ℕ) (steps : (at : ℕ) (st : S) → OfStep P (step at st)) (over : (at : ℕ) → at < end → P Trailing at) where
   of_end : (at : ℕ) (t : Bool) → ltb at end ≡ t → OfOutcome {A = List A} P (cond t (refused Trailing at) (accepted []))
@@ -64,8 +63,8 @@ module _ {S A : Type 0} (P : Said) (step : ℕ → S → Step S A) (end : ℕ) (
 
   pub of_counted : (st : S) (u : Unsigned) → OfUnsigned P u → OfOutcome P (counted step end st u)
   unfolding counted
-  of_counted st (unsigned.Value n first) h = of_records n first st
-  of_counted st (unsigned.Refused why p) h = h
+  of_counted st (Ok (n , first)) h = of_records n first st
+  of_counted st (Err e) h = h
 
 -- records that are written are refused at an index of theirs
 module _ {S A : Type 0} (P : Said) (put : S → A → Put) (next : S → A → S) where

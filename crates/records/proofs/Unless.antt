@@ -6,9 +6,10 @@ use mathlib.Core.List.{List}
 use Rattle.answer.specs.Outcome.{Outcome, refused, before}
 use Rattle.answer.specs.Said.{Said}
 use Rattle.answer.specs.Unless.{Unless, same, unless_then}
-use Rattle.leb128.specs.declared.Unsigned.{Unsigned}
-use Rattle.leb128.specs.declared.Unsigned.TheVariants as unsigned
 use Rattle.records.specs.Reading.{Step, one, none, step_then, records, counted}
+use Rattle.std.specs.Prelude.{Ok, Err}
+use Rattle.answer.specs.Outcome.{err_at}
+use Rattle.leb128.specs.Number.{Unsigned}
 
 unless_before : {A : Type 0} (P : Said) (x : A) (o o' : Outcome (List A)) → Unless refused P o o' → Unless refused P (before x o) (before x o')
 unfolding before
@@ -27,10 +28,10 @@ module _ {S A : Type 0} (P : Said) (step step' : ℕ → S → Step S A) (end : 
       go rest (one x past next) = unless_before P x (records step end n past next) (records step' end n past next) (rest past next)
       go rest (none why p) = same refl
 
-  pub unless_counted : (st : S) (u u' : Unsigned) → Unless unsigned.Refused P u u' → Unless refused P (counted step end st u) (counted step' end st u')
+  pub unless_counted : (st : S) (u u' : Unsigned) → Unless err_at P u u' → Unless refused P (counted step end st u) (counted step' end st u')
   unfolding counted
-  unless_counted st u u' h = unless_then unsigned.Refused refused P (counted step end st) (counted step' end st) (λ why p. refl) go u u' h
+  unless_counted st u u' h = unless_then err_at refused P (counted step end st) (counted step' end st) (λ why p. refl) go u u' h
     where
       go : (u : Unsigned) → Unless refused P (counted step end st u) (counted step' end st u)
-      go (unsigned.Value n first) = unless_records n first st
-      go (unsigned.Refused why p) = same refl
+      go (Ok (n , first)) = unless_records n first st
+      go (Err e) = same refl

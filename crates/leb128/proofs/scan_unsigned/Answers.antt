@@ -1,34 +1,25 @@
+use mathlib.Core.Path.{◌∙◌}
 use borrow.Author.Rules.{rules}
-use Rattle.leb128.proofs.Answers.{fits_unsigned, answers}
+use Rattle.answer.specs.Outcome.Laws.{handed_on}
+use Rattle.leb128.proofs.Answers.{none_unsigned, fits_unsigned, long_form_unsigned, over_unsigned, over_place_unsigned, run_next}
 use Rattle.leb128.proofs.scan_unsigned.Goals as goal
 
-pub overflow_add-place : goal.overflow_add-place
-overflow_add-place c = search answers
+pub returns-in_err-run : goal.returns-in_err-run
+returns-in_err-run c =
+    handed_on _ c.in_err-run.field-0.0 c.from_residual.ensures.1 ∙ none_unsigned _ _ _ _ (search rules) c.in_err-run.ensures
 
-pub whole-requires : goal.whole-requires
-whole-requires c = search answers
+pub overflow_add-result : goal.overflow_add-result
+overflow_add-result c = over_place_unsigned c.args.strict _ _ _ (search rules) c.in_ok-run.ensures c.in_default.ensures (search rules)
 
-pub overflow_add-end : goal.overflow_add-end
-overflow_add-end c = search answers
-
-pub padded_unsigned-requires : goal.padded_unsigned-requires
-padded_unsigned-requires c = search answers
-
-pub overflow_add-next-else-padded_unsigned : goal.overflow_add-next-else-padded_unsigned
-overflow_add-next-else-padded_unsigned c = search answers
-
-pub returns-in-Cut : goal.returns-in-Cut
-returns-in-Cut c = search answers
-
-pub returns-in-Long : goal.returns-in-Long
-returns-in-Long c = search answers
-
-pub returns-in-Over : goal.returns-in-Over
-returns-in-Over c = search answers
+pub returns-in_default : goal.returns-in_default
+returns-in_default c = over_unsigned _ _ _ _ (search rules) c.in_ok-run.ensures c.in_default.ensures
 
 pub returns-then-padded_unsigned : goal.returns-then-padded_unsigned
-returns-then-padded_unsigned c = search answers
+returns-then-padded_unsigned c =
+    long_form_unsigned _ _ _ _ (search rules) c.in_ok-run.ensures c.in-Some.ensures c.padded_unsigned.ensures c.if-padded_unsigned.true
 
-pub returns-else-padded_unsigned : goal.returns-else-padded_unsigned
-returns-else-padded_unsigned c =
-    fits_unsigned _ _ _ _ c.scan.ensures (search rules) c.in-Run.is c.whole.ensures c.in-Fits.is c.padded_unsigned.ensures c.if-padded_unsigned.false
+pub overflow_add-next-2 : goal.overflow_add-next-2
+overflow_add-next-2 c = run_next c.args.strict _ _ _ (search rules) c.in_ok-run.ensures (search rules)
+
+pub returns : goal.returns
+returns c = fits_unsigned _ _ _ _ (search rules) c.in_ok-run.ensures c.in-Some.ensures c.padded_unsigned.ensures c.if-padded_unsigned.false

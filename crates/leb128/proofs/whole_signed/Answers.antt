@@ -10,36 +10,36 @@ use Rattle.leb128.proofs.whole_signed.Goals as goal
 
 pub plus-requires : goal.plus-requires
 plus-requires c =
-    let h = c.in-Fits.ensures in
+    let h = c.in_ok-v.ensures in
     let l : c.args.bits ≤ 63 = omega arith in
     omega (arith, h, pow_mono l)
 
 pub minus-requires : goal.minus-requires
 minus-requires c =
-    let h = c.in-Fits-whole.ensures in
+    let h = c.in_ok-w.ensures in
     let l : c.args.bits ≤ 63 = omega arith in
     omega (arith, h, pow_mono l)
 
-pub returns-in-Fits : goal.returns-in-Fits
-returns-in-Fits c =
-    let h = c.in-Fits.ensures in
+pub returns-then-d-lt64 : goal.returns-then-d-lt64
+returns-then-d-lt64 c =
+    let h = c.in_ok-v.ensures in
     rw (signed_pos c.args.low c.args.k c.args.d c.requires.0.low_lt (omega arith), to_z-of_z {w = w64} (record { sfits = c.plus.type_inv }))
     (c.plus.ensures ∙ ap pos h.0, h.1)
 
-pub returns-in-Over : goal.returns-in-Over
-returns-in-Over c =
-    let h = c.in-Over.ensures in
-    rw (signed_pos c.args.low c.args.k c.args.d c.requires.0.low_lt (omega arith)) h
+pub returns-in_err-v : goal.returns-in_err-v
+returns-in_err-v c =
+    let h = c.in_err-v.ensures in
+    rw (c.from_residual.ensures, signed_pos c.args.low c.args.k c.args.d c.requires.0.low_lt (omega arith)) h
 
-pub returns-in-Fits-whole : goal.returns-in-Fits-whole
-returns-in-Fits-whole c =
-    let h = c.in-Fits-whole.ensures in
+pub returns : goal.returns
+returns c =
+    let h = c.in_ok-w.ensures in
     let e = c.complement.ensures in
     rw (signed_neg c.args.low c.args.k c.args.d c.requires.0.low_lt (omega arith) c.requires.0.digit, to_z-of_z {w = w64} (record { sfits = c.minus.type_inv }), ← e)
     (c.minus.ensures ∙ ap negsuc h.0, h.1)
 
-pub returns-in-Over-whole : goal.returns-in-Over-whole
-returns-in-Over-whole c =
-    let h = c.in-Over-whole.ensures in
+pub returns-in_err-w : goal.returns-in_err-w
+returns-in_err-w c =
+    let h = c.in_err-w.ensures in
     let e = c.complement.ensures in
-    rw (signed_neg c.args.low c.args.k c.args.d c.requires.0.low_lt (omega arith) c.requires.0.digit, ← e) h
+    rw (c.from_residual-in_err-w.ensures, signed_neg c.args.low c.args.k c.args.d c.requires.0.low_lt (omega arith) c.requires.0.digit, ← e) h
