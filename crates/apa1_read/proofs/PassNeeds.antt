@@ -12,16 +12,10 @@ use mir.Val.{Fits}
 use borrow.Author.Rules.{rules, scaled_Fits}
 use Rattle.answer.specs.declared.Refusal.{Refusal}
 use Rattle.answer.specs.declared.Refusal.TheVariants.{Limit, Trailing}
-use Rattle.answer.specs.declared.Found.{Found}
-use Rattle.answer.specs.declared.Found.TheVariants as found
 use Rattle.answer.specs.Outcome.{Outcome, input_limit, found_of}
 use Rattle.answer.specs.Outcome.Laws.{accepted_refused, found_refused}
 use Rattle.leb128.specs.Cause.{unsigned_cause, signed_cause, signed_cause_law}
 use Rattle.leb128.specs.declared.Cause.{Cause}
-use Rattle.leb128.specs.declared.Signed.{Signed}
-use Rattle.leb128.specs.declared.Signed.TheVariants.{Value as SValue, Refused as SRefused}
-use Rattle.leb128.specs.declared.Unsigned.{Unsigned}
-use Rattle.leb128.specs.declared.Unsigned.TheVariants.{Value as UValue, Refused as URefused}
 use Rattle.records.specs.Columns.{Column}
 use Rattle.records.specs.Columns.Laws.{column_none, column_next, column_same, column_filled}
 use Rattle.records.specs.Reading.{records}
@@ -34,6 +28,10 @@ use Rattle.apa1_table.specs.Table.Laws.{parse_is, decode_over, decode_in, decode
 use Rattle.apa1_table.specs.Contract.{offset_of, addend_of, Filled}
 use Rattle.apa1_table.specs.Inner.{Fillable}
 use Rattle.apa1_read.specs.Inner.{entry_step, Skips}
+use Rattle.std.specs.Prelude.{Result, Ok}
+use Rattle.answer.specs.declared.Refused.{Refused}
+use Rattle.answer.specs.Outcome.{err_at}
+use Rattle.leb128.specs.Number.{Unsigned, Signed, ok_at}
 
 -- the records of a table that has so many from a place on
 abbrev pub body : Bool → List ℕ → ℕ → ℕ → Outcome (List Row)
@@ -49,16 +47,16 @@ walk_begin strict s n first = record { prev = start; scanned = scanned_none (ste
 
 module _ {strict : Bool} {s : List ℕ} {n first left at : ℕ} (i : Walking strict s n first left at) where
   module _ (x : Signed) (h : 0 < left) (e : Skips strict s at x) where
-    pub walk_more : {z : ℤ} {past : ℕ} → x ≡ SValue z past → Walking strict s n first (left - 1) past
+    pub walk_more : {z : ℤ} {past : ℕ} → x ≡ ok_at z past → Walking strict s n first (left - 1) past
     walk_more f = let (y, g) = subst (Skips strict s at) f e i.prev in record { prev = y; scanned = scanned_more i.scanned h g }
 
-    pub walk_bad : {k : Cause} {why : Refusal} {p : ℕ} → x ≡ SRefused why p → k ≡ signed_cause x → found.Refused k.why k.place ≡ found_of (body strict s n first)
+    pub walk_bad : {k : Cause} {why : Refusal} {p : ℕ} → x ≡ err_at why p → k ≡ signed_cause x → err_at k.why k.place ≡ found_of (body strict s n first)
     walk_bad f g = scanned_bad i.scanned h (subst (Skips strict s at) (signed_cause_law f g) e i.prev)
 
-  pub walk_end : left ≤ 0 → length s ≤ at → found.Count n ≡ found_of (body strict s n first)
+  pub walk_end : left ≤ 0 → length s ≤ at → Ok n ≡ found_of (body strict s n first)
   walk_end h k = scanned_end i.scanned h k
 
-  pub walk_over : left ≤ 0 → at < length s → found.Refused Trailing at ≡ found_of (body strict s n first)
+  pub walk_over : left ≤ 0 → at < length s → err_at Trailing at ≡ found_of (body strict s n first)
   walk_over h k = scanned_over i.scanned h k
 
 pub ruleset walks = (walk_begin, walk_more, walk_bad, walk_end, walk_over, rules)
@@ -126,35 +124,35 @@ pub ruleset stores = (store_begin, store_same, store_same_2, store_bad, store_in
 
 -- ---- from the head on
 module _ (strict : Bool) (s : List ℕ) {u : Unsigned} (e : u ≡ head_at strict s) where
-  whole : {n first : ℕ} → u ≡ UValue n first → parse strict s ≡ body strict s n first
+  whole : {n first : ℕ} → u ≡ ok_at n first → parse strict s ≡ body strict s n first
   whole f = parse_is strict s ∙ counted_records (step_at strict s) (length s) start (sym e ∙ f)
 
-  pub scan_not : {k : Cause} {why : Refusal} {p : ℕ} → u ≡ URefused why p → k ≡ unsigned_cause u → found.Refused k.why k.place ≡ found_of (parse strict s)
+  pub scan_not : {k : Cause} {why : Refusal} {p : ℕ} → u ≡ err_at why p → k ≡ unsigned_cause u → err_at k.why k.place ≡ found_of (parse strict s)
   scan_not f g = rw (parse_is strict s) (count_not (step_at strict s) (length s) start (sym e ∙ f) (g ∙ ap unsigned_cause e))
 
-  pub scan_is : {n first : ℕ} {r : Found} → u ≡ UValue n first → r ≡ found_of (body strict s n first) → r ≡ found_of (parse strict s)
+  pub scan_is : {n first : ℕ} {r : Result ℕ Refused} → u ≡ ok_at n first → r ≡ found_of (body strict s n first) → r ≡ found_of (parse strict s)
   scan_is f g = g ∙ ap found_of (sym (whole f))
 
   module _ {os : List ℕ} {us : List ℤ} (f : Fillable (decode strict s) os us) where
-    all : {n first : ℕ} → u ≡ UValue n first → decode strict s ≡ body strict s n first
+    all : {n first : ℕ} → u ≡ ok_at n first → decode strict s ≡ body strict s n first
     all g = decode_in strict s (decode_accepted strict s f.fitting.is).0 ∙ whole g
 
-    pub fill_not : {why : Refusal} {p : ℕ} {os' : List ℕ} {us' : List ℤ} → u ≡ URefused why p → Filled (decode strict s) os us os' us'
+    pub fill_not : {why : Refusal} {p : ℕ} {os' : List ℕ} {us' : List ℤ} → u ≡ err_at why p → Filled (decode strict s) os us os' us'
     fill_not g = absurd (accepted_refused (decode_accepted strict s f.fitting.is).1 (parse_is strict s ∙ counted_not (step_at strict s) (length s) start (sym e ∙ g)))
 
-    pub fill_able : {n first : ℕ} → u ≡ UValue n first → Fillable (body strict s n first) os us
+    pub fill_able : {n first : ℕ} → u ≡ ok_at n first → Fillable (body strict s n first) os us
     fill_able g = rw (← all g) f
 
-    pub fill_is : {n first : ℕ} {os' : List ℕ} {us' : List ℤ} → u ≡ UValue n first → Filled (body strict s n first) os us os' us' → Filled (decode strict s) os us os' us'
+    pub fill_is : {n first : ℕ} {os' : List ℕ} {us' : List ℤ} → u ≡ ok_at n first → Filled (body strict s n first) os us os' us' → Filled (decode strict s) os us os' us'
     fill_is g h = rw (all g) h
 
 pub ruleset fills = (scan_not, scan_is, fill_not, fill_able, fill_is, rules)
 
 -- ---- the limit in front
-pub check_over : (strict : Bool) (s : List ℕ) → input_limit < length s → found.Refused Limit 0 ≡ found_of (decode strict s)
+pub check_over : (strict : Bool) (s : List ℕ) → input_limit < length s → err_at Limit 0 ≡ found_of (decode strict s)
 check_over strict s h = sym (found_refused (decode_over strict s h))
 
-pub check_in : (strict : Bool) (s : List ℕ) {r : Found} → length s ≤ input_limit → r ≡ found_of (parse strict s) → r ≡ found_of (decode strict s)
+pub check_in : (strict : Bool) (s : List ℕ) {r : Result ℕ Refused} → length s ≤ input_limit → r ≡ found_of (parse strict s) → r ≡ found_of (decode strict s)
 check_in strict s h e = e ∙ ap found_of (sym (decode_in strict s h))
 
 pub ruleset checks = (check_over, check_in, rules)

@@ -11,9 +11,6 @@ use Rattle.answer.specs.Bytes.{Bytes}
 use Rattle.answer.specs.Outcome.{input_limit, list_limit}
 use Rattle.answer.specs.Said.{OfOutcome, OfList, AtMost, Bounded, of_cond, of_limited, of_after, list_of, list_map, list_limited}
 use Rattle.leb128.specs.Number.{read_signed}
-use Rattle.leb128.specs.declared.Signed.{Signed}
-use Rattle.leb128.specs.declared.Signed.TheVariants.{Value, Refused}
-use Rattle.leb128.specs.declared.Unsigned.TheVariants.{Refused as URefused}
 use Rattle.leb128.proofs.Setting.{signed_value, signed_place}
 use Rattle.records.specs.Identifier.{starts_with}
 use Rattle.records.specs.Writing.{puts}
@@ -23,18 +20,21 @@ use Rattle.apa1_table.specs.Table.{Row, start, identifier, second_of, first_of, 
 use Rattle.apa1_table.specs.Table.Laws.{build_is}
 use Rattle.apa1_table.proofs.RoundTrip.{encode_most, encode_legal}
 use Rattle.apa1_table.proofs.Refusals.{of_parse}
+use Rattle.std.specs.Prelude.{Ok, Err}
+use Rattle.answer.specs.Outcome.{err_at}
+use Rattle.leb128.specs.Number.{Signed}
 
 module _ (strict : Bool) (s : List ℕ) where
   -- a record has at least two bytes
   second_moves : (prev : Row) (d : ℤ) (at next : ℕ) → at < next → (u : Signed) → read_signed strict 64 s next ≡ u → Moves 2 (length s) at (second_of prev d u)
   unfolding second_of
-  second_moves prev d at next h (Value z past) e = let v = signed_value strict 64 s next z past e in (omega (arith, v.1), v.2)
-  second_moves prev d at next h (Refused why p) e = tt
+  second_moves prev d at next h (Ok (z , past)) e = let v = signed_value strict 64 s next z past e in (omega (arith, v.1), v.2)
+  second_moves prev d at next h (Err x) e = tt
 
   first_moves : (prev : Row) (at : ℕ) (u : Signed) → read_signed strict 64 s at ≡ u → Moves 2 (length s) at (first_of strict s prev u)
   unfolding first_of
-  first_moves prev at (Value d next) e = second_moves prev d at next (signed_value strict 64 s at d next e).1 (read_signed strict 64 s next) refl
-  first_moves prev at (Refused why p) e = tt
+  first_moves prev at (Ok (d , next)) e = second_moves prev d at next (signed_value strict 64 s at d next e).1 (read_signed strict 64 s next) refl
+  first_moves prev at (Err x) e = tt
 
   moves : (at : ℕ) (prev : Row) → Moves 2 (length s) at (step_at strict s at prev)
   unfolding step_at
@@ -42,20 +42,20 @@ module _ (strict : Bool) (s : List ℕ) where
 
   plain_ends : (strict : Bool) (u : Signed) → read_signed strict 64 s (length identifier) ≡ u → Ends (length s) (plain u)
   unfolding plain
-  plain_ends strict (Value z next) e = (signed_value strict 64 s (length identifier) z next e).2
-  plain_ends strict (Refused why p) e = tt
+  plain_ends strict (Ok (z , next)) e = (signed_value strict 64 s (length identifier) z next e).2
+  plain_ends strict (Err x) e = tt
 
   count_ends : (strict : Bool) (u : Signed) → Ends (length s) (count_of u (read_signed strict 64 s (length identifier)))
   unfolding count_of
-  count_ends strict (Value (pos n) next) = plain_ends strict (read_signed strict 64 s (length identifier)) refl
-  count_ends strict (Value (negsuc n) next) = tt
-  count_ends strict (Refused why p) = tt
+  count_ends strict (Ok ((pos n) , next)) = plain_ends strict (read_signed strict 64 s (length identifier)) refl
+  count_ends strict (Ok ((negsuc n) , next)) = tt
+  count_ends strict (Err e) = tt
 
   head_ends : Ends (length s) (head_at strict s)
   unfolding head_at
   head_ends =
       let at = length identifier in
-      of_cond (Ends (length s)) (starts_with identifier s) (count_of (read_signed false 64 s at) _) (URefused _ 0) (count_ends _ (read_signed false 64 s at)) tt
+      of_cond (Ends (length s)) (starts_with identifier s) (count_of (read_signed false 64 s at) _) (err_at _ 0) (count_ends _ (read_signed false 64 s at)) tt
 
   most : length s ≤ input_limit → OfList (λ (l : List Row). length l ≤ input_limit / 2) (parse strict s)
   unfolding parse

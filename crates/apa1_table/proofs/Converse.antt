@@ -12,9 +12,6 @@ use Rattle.answer.specs.Bytes.{Bytes}
 use Rattle.answer.specs.declared.Refusal.TheVariants.{Identifier}
 use Rattle.answer.specs.Outcome.{accepted, list_limit}
 use Rattle.leb128.specs.Number.{read_signed, short_signed}
-use Rattle.leb128.specs.declared.Signed.{Signed}
-use Rattle.leb128.specs.declared.Signed.TheVariants.{Value, Refused}
-use Rattle.leb128.specs.declared.Unsigned.TheVariants.{Value as UValue, Refused as URefused}
 use Rattle.leb128.proofs.Setting.{lax_signed_law, read_lax_signed, signed_value}
 use Rattle.leb128.proofs.Strict.{strict_signed}
 use Rattle.records.specs.Columns.{zipped}
@@ -28,16 +25,19 @@ use Rattle.wrap.specs.Wrap.Laws.{residue_lt, residue_small, residue_wrapped, for
 use Rattle.apa1_table.specs.Table.{Row, row, start, identifier, second_of, first_of, step_at, plain, count_of, head_at, decode, rows, entry_bytes, put_of, behind, head_of, build, encode}
 use Rattle.apa1_table.specs.Table.Laws.{parse_is, decode_accepted, build_is, encode_in, head_bytes, entry_bytes_law}
 use Rattle.apa1_table.specs.Contract.{offset_of, addend_of}
+use Rattle.std.specs.Prelude.{Ok, Err}
+use Rattle.answer.specs.Outcome.{err_at}
+use Rattle.leb128.specs.Number.{Signed, ok_at}
 
 module _ (s : List ℕ) (bytes : Bytes s) where
   -- ---- a record: its differences are the numbers that stand there
   abbrev AsWritten : ℕ → Row → Row → ℕ → Row → Type 0
   AsWritten at prev x past now = Verbatim put_of behind (λ (x : Row). Unit {0}) s at prev x past now
 
-  from_second : (at next past : ℕ) (prev x now : Row) (d : ℤ) (u : Signed) → read_signed true 64 s at ≡ Value d next → read_signed true 64 s next ≡ u → second_of prev d u ≡ one x past now
+  from_second : (at next past : ℕ) (prev x now : Row) (d : ℤ) (u : Signed) → read_signed true 64 s at ≡ ok_at d next → read_signed true 64 s next ≡ u → second_of prev d u ≡ one x past now
       → AsWritten at prev x past now
   unfolding second_of
-  from_second at next past prev x now d (Value a p) e f g =
+  from_second at next past prev x now d (Ok (a , p)) e f g =
       let w : 0 < 64 = omega arith in
       let is : row (residue 64 (pos prev.offset +ℤ d)) (wrapped 64 (prev.addend +ℤ a)) ≡ x = cc in
       let q : p ≡ past = cc in
@@ -53,37 +53,37 @@ module _ (s : List ℕ) (bytes : Bytes s) where
         state = cc;
         good = tt;
       }
-  from_second at next past prev x now d (Refused why p) e f g = let z : ◌≡◌ {A = ℕ} 0 1 = cc in absurd (omega arith)
+  from_second at next past prev x now d (Err bad) e f g = let z : ◌≡◌ {A = ℕ} 0 1 = cc in absurd (omega arith)
 
   from_first : (at past : ℕ) (prev x now : Row) (u : Signed) → read_signed true 64 s at ≡ u → first_of true s prev u ≡ one x past now → AsWritten at prev x past now
   unfolding first_of
-  from_first at past prev x now (Value d next) e g = from_second at next past prev x now d (read_signed true 64 s next) e refl g
-  from_first at past prev x now (Refused why p) e g = let z : ◌≡◌ {A = ℕ} 0 1 = cc in absurd (omega arith)
+  from_first at past prev x now (Ok (d , next)) e g = from_second at next past prev x now d (read_signed true 64 s next) e refl g
+  from_first at past prev x now (Err bad) e g = let z : ◌≡◌ {A = ℕ} 0 1 = cc in absurd (omega arith)
 
   record_forth : (at : ℕ) (prev x : Row) (past : ℕ) (now : Row) → Unit {0} → step_at true s at prev ≡ one x past now → AsWritten at prev x past now
   unfolding step_at
   record_forth at prev x past now u g = from_first at past prev x now (read_signed true 64 s at) refl g
 
   -- ---- the identifier and the count
-  count_forth : {n first : ℕ} (u v : Signed) → read_signed false 64 s (length identifier) ≡ u → read_signed true 64 s (length identifier) ≡ v → count_of u v ≡ UValue n first
-      → read_signed true 64 s (length identifier) ≡ Value (pos n) first
+  count_forth : {n first : ℕ} (u v : Signed) → read_signed false 64 s (length identifier) ≡ u → read_signed true 64 s (length identifier) ≡ v → count_of u v ≡ ok_at n first
+      → read_signed true 64 s (length identifier) ≡ ok_at (pos n) first
   unfolding count_of plain
-  count_forth {n} {first} (Value (pos m) p) (Value z q) e f g =
-      let l : Value (pos m) p ≡ Value z q = sym e ∙ lax_signed_law 64 s (length identifier) ∙ read_lax_signed true 64 s (length identifier) f in
+  count_forth {n} {first} (Ok ((pos m) , p)) (Ok (z , q)) e f g =
+      let l : ok_at (pos m) p ≡ ok_at z q = sym e ∙ lax_signed_law 64 s (length identifier) ∙ read_lax_signed true 64 s (length identifier) f in
       let h : mag z ≡ n = cc in
       let k : pos m ≡ z = cc in
       let o : q ≡ first = cc in
-      f ∙ ap₂ Value (sym k ∙ ap pos (ap mag k ∙ h)) o
-  count_forth (Value (pos m) p) (Refused why q) e f g = let z : ◌≡◌ {A = ℕ} 0 1 = cc in absurd (omega arith)
-  count_forth (Value (negsuc m) p) v e f g = let z : ◌≡◌ {A = ℕ} 0 1 = cc in absurd (omega arith)
-  count_forth (Refused why p) v e f g = let z : ◌≡◌ {A = ℕ} 0 1 = cc in absurd (omega arith)
+      f ∙ ap₂ ok_at (sym k ∙ ap pos (ap mag k ∙ h)) o
+  count_forth (Ok ((pos m) , p)) (Err x) e f g = let z : ◌≡◌ {A = ℕ} 0 1 = cc in absurd (omega arith)
+  count_forth (Ok ((negsuc m) , p)) v e f g = let z : ◌≡◌ {A = ℕ} 0 1 = cc in absurd (omega arith)
+  count_forth (Err x) v e f g = let z : ◌≡◌ {A = ℕ} 0 1 = cc in absurd (omega arith)
 
-  head_forth : {n first : ℕ} → head_at true s ≡ UValue n first → s ≡ head_of n ++ drop first s
+  head_forth : {n first : ℕ} → head_at true s ≡ ok_at n first → s ≡ head_of n ++ drop first s
   unfolding head_at
   head_forth {n} {first} e = go (starts_with identifier s) refl e
     where
       go : (t : Bool) → starts_with identifier s ≡ t
-          → cond t (count_of (read_signed false 64 s (length identifier)) (read_signed true 64 s (length identifier))) (URefused Identifier 0) ≡ UValue n first → s ≡ head_of n ++ drop first s
+          → cond t (count_of (read_signed false 64 s (length identifier)) (read_signed true 64 s (length identifier))) (err_at Identifier 0) ≡ ok_at n first → s ≡ head_of n ++ drop first s
       go true i e =
           let r = count_forth (read_signed false 64 s (length identifier)) (read_signed true 64 s (length identifier)) refl refl e in
           starts_whole identifier s i ∙ ap (λ (t : List ℕ). identifier ++ t) (strict_signed 64 s (length identifier) (omega arith) bytes r) ∙ sym (append_assoc identifier (short_signed (pos n)) (drop first s))

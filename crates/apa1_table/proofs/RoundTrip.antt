@@ -13,8 +13,6 @@ use Rattle.answer.specs.Outcome.{accepted, input_limit, list_limit}
 use Rattle.answer.specs.Outcome.Laws.{Accepts}
 use Rattle.answer.specs.Outcome.Laws as Outcome
 use Rattle.leb128.specs.Number.{read_signed, short_signed}
-use Rattle.leb128.specs.declared.Signed.TheVariants.{Value}
-use Rattle.leb128.specs.declared.Unsigned.TheVariants.{Value as UValue}
 use Rattle.records.specs.Columns.{Each}
 use Rattle.records.specs.Columns.Laws.{At, each_of, column_of}
 use Rattle.records.specs.Identifier.{starts_with}
@@ -29,6 +27,7 @@ use Rattle.wrap.specs.Wrap.Laws.{wrapped_range, back_residue, back_wrapped, resi
 use Rattle.apa1_table.specs.Table.{Row, row, start, identifier, step_at, plain, head_at, parse, decode, rows, entry_bytes, put_of, behind, head_of, build, encode}
 use Rattle.apa1_table.specs.Table.Laws.{step_is, head_is, count_other, plain_is, parse_is, decode_in, rows_length, rows_from_law, build_is, encode_in, encode_accepted, head_bytes, entry_bytes_law, entry_most, head_most}
 use Rattle.apa1_table.specs.Contract.{offset_of, addend_of}
+use Rattle.leb128.specs.Number.{ok_at}
 
 -- ---- every list has a table
 -- nothing is asked of a record
@@ -81,9 +80,9 @@ parse_build strict l {b} few fine e =
     let n = short_signed (pos (length l)) in
     let p : b ≡ identifier ++ (n ++ c.rest) = c.whole ∙ ap (λ (m : List ℕ). m ++ c.rest) (head_bytes (length l)) ∙ append_assoc identifier n c.rest in
     let i : starts_with identifier b ≡ true = ap (starts_with identifier) p ∙ starts_same identifier (n ++ c.rest) in
-    let r : (strict : Bool) → read_signed strict 64 b 4 ≡ Value (pos (length l)) (length (head_of (length l))) =
-    (λ strict. signed_here strict 64 b identifier c.rest 4 (omega arith) refl (pos (length l)) few p ∙ ap (λ (m : List ℕ). Value (pos (length l)) (length m)) (sym (head_bytes (length l)))) in
-    let h : head_at strict b ≡ UValue (length l) (length (head_of (length l))) =
+    let r : (strict : Bool) → read_signed strict 64 b 4 ≡ ok_at (pos (length l)) (length (head_of (length l))) =
+    (λ strict. signed_here strict 64 b identifier c.rest 4 (omega arith) refl (pos (length l)) few p ∙ ap (λ (m : List ℕ). ok_at (pos (length l)) (length m)) (sym (head_bytes (length l)))) in
+    let h : head_at strict b ≡ ok_at (length l) (length (head_of (length l))) =
     head_is strict b i (r false) ∙ count_other (pos (length l)) _ _ refl ∙ ap plain (r _) ∙ plain_is (pos (length l)) _ in
     parse_is strict b ∙ counted_records (step_at strict b) (length b) start h ∙
     rw c.whole (back (step_at strict) put_of behind (λ (x : Row). Unit {0}) Fine (record_back strict) l 0 start (head_of (length l)) tt fine c.is)

@@ -5,15 +5,14 @@ use Rattle.std.specs.Int.Signed.{mag}
 use Rattle.answer.specs.declared.Refusal.TheVariants.{Identifier, Width}
 use Rattle.answer.specs.Outcome.{Outcome, input_limit, list_limit, limited, after}
 use Rattle.leb128.specs.Number.{read_signed, short_signed}
-use Rattle.leb128.specs.declared.Signed.{Signed}
-use Rattle.leb128.specs.declared.Signed.TheVariants.{Value, Refused}
-use Rattle.leb128.specs.declared.Unsigned.{Unsigned}
-use Rattle.leb128.specs.declared.Unsigned.TheVariants.{Value as UValue, Refused as URefused}
 use Rattle.records.specs.Columns.{zipped}
 use Rattle.records.specs.Identifier.{starts_with}
 use Rattle.records.specs.Reading.{Step, one, none, counted}
 use Rattle.records.specs.Writing.{Put, bytes, puts}
 use Rattle.wrap.specs.Wrap.{residue, wrapped}
+use Rattle.std.specs.Prelude.{Ok, Err}
+use Rattle.answer.specs.Outcome.{err_at}
+use Rattle.leb128.specs.Number.{Unsigned, Signed, ok_at}
 pub mod Laws
 pub mod Setting
 
@@ -38,15 +37,15 @@ identifier = 0x41 ∷ 0x50 ∷ 0x41 ∷ 0x31 ∷ []
 
 -- the record whose differences are d and the number given, after the record before it: both sums wrap at 64 bits
 unfoldable pub second_of : Row → ℤ → Signed → Step Row Row
-second_of prev d (Value e past) =
+second_of prev d (Ok (e , past)) =
     let x : Row = row (residue 64 (pos prev.offset +ℤ d)) (wrapped 64 (prev.addend +ℤ e)) in
     one x past x
-second_of prev d (Refused why p) = none why p
+second_of prev d (Err e) = none e.why e.place
 
 -- the same from the number that is the offset's difference on
 unfoldable pub first_of : Bool → List ℕ → Row → Signed → Step Row Row
-first_of strict s prev (Value d next) = second_of prev d (read_signed strict 64 s next)
-first_of strict s prev (Refused why p) = none why p
+first_of strict s prev (Ok (d , next)) = second_of prev d (read_signed strict 64 s next)
+first_of strict s prev (Err e) = none e.why e.place
 
 -- the record at a place: two signed numbers of 64 bits, the offset's difference and the addend's
 unfoldable pub step_at : Bool → List ℕ → ℕ → Row → Step Row Row
@@ -54,19 +53,19 @@ step_at strict s at prev = first_of strict s prev (read_signed strict 64 s at)
 
 -- a signed number that is not negative, as a count
 unfoldable pub plain : Signed → Unsigned
-plain (Value z first) = UValue (mag z) first
-plain (Refused why p) = URefused why p
+plain (Ok (z , first)) = ok_at (mag z) first
+plain (Err e) = Err e
 
 -- a count, by lax reading and by the setting: it may not be negative, which is refused at its first byte, also where the number is padded
 unfoldable pub count_of : Signed → Signed → Unsigned
-count_of (Value (pos n) first) u = plain u
-count_of (Value (negsuc n) first) u = URefused Width (length identifier)
-count_of (Refused why p) u = URefused why p
+count_of (Ok ((pos n) , first)) u = plain u
+count_of (Ok ((negsuc n) , first)) u = err_at Width (length identifier)
+count_of (Err e) u = Err e
 
 -- the identifier and the count: a signed number of 64 bits
 unfoldable pub head_at : Bool → List ℕ → Unsigned
 head_at strict s =
-    cond (starts_with identifier s) (count_of (read_signed false 64 s (length identifier)) (read_signed strict 64 s (length identifier))) (URefused Identifier 0)
+    cond (starts_with identifier s) (count_of (read_signed false 64 s (length identifier)) (read_signed strict 64 s (length identifier))) (err_at Identifier 0)
 
 -- what the bytes say, however many they are: the identifier, the count, and that many records
 unfoldable pub parse : Bool → List ℕ → Outcome (List Row)

@@ -13,7 +13,6 @@ use mir.Facts.{to_z-of_z}
 use borrow.Author.Count.{below_more}
 use borrow.Author.Rules.{rules, sfits_of}
 use Rattle.answer.specs.declared.Refusal.TheVariants.{Limit}
-use Rattle.answer.specs.declared.Found.TheVariants as found
 use Rattle.answer.proofs.Limits.{list_small}
 use Rattle.answer.specs.Outcome.{Outcome, list_limit, after, found_of}
 use Rattle.answer.specs.Outcome.Laws.{accepted_refused, found_refused}
@@ -25,6 +24,8 @@ use Rattle.apa1_table.specs.Table.{row, start, rows, entry_bytes, put_of, behind
 use Rattle.apa1_table.specs.Table.Laws.{rows_length, rows_from_law, build_is, encode_over, encode_in, encode_accepted, entry_most, head_most}
 use Rattle.apa1_table.proofs.RoundTrip.{decode_encode, rows_fine}
 use Rattle.apa1_table.specs.Inner.{Listed, Measures, Puttable}
+use Rattle.std.specs.Prelude.{Ok}
+use Rattle.answer.specs.Outcome.{err_at}
 
 -- a signed number as the code passes it on: by its bits
 abbrev Bits : ℤ → ℤ
@@ -68,7 +69,7 @@ module _ {os : List ℕ} {us : List ℤ} {total o : ℕ} {w : ℤ} {i : ℕ} (l 
           small = below_more (λ (j : ℕ). mag (get_or us j (pos 0)) < 2 ^ 63) i g.small m;
         }
 
-  pub size_end : length os ≤ i → ((j : ℕ) → Fits w64 (get_or os j 0)) → Measures os us (found.Count total)
+  pub size_end : length os ≤ i → ((j : ℕ) → Fits w64 (get_or os j 0)) → Measures os us (Ok total)
   size_end h wide =
       let n = rows_length os us l.same in
       record {
@@ -80,7 +81,7 @@ pub ruleset sizes = (size_few, size_begin, size_sum, size_more, size_end, rules)
 
 -- ---- the limit in front
 module _ {os : List ℕ} {us : List ℤ} (same : length os ≡ length us) where
-  pub measure_over : list_limit < length os → Measures os us (found.Refused Limit 0)
+  pub measure_over : list_limit < length os → Measures os us (err_at Limit 0)
   measure_over h =
       let e = encode_over (rows os us) (omega (arith, rows_length os us same)) in
       record { found = sym (found_refused e); back = λ strict b f. absurd (accepted_refused f e) }

@@ -13,8 +13,6 @@ use Rattle.answer.specs.declared.Refusal.TheVariants.{Identifier, Space, Order}
 use Rattle.answer.specs.Outcome.{Outcome, accepted, refused, input_limit, list_limit}
 use Rattle.answer.specs.Said.{OfOutcome, OfList, AtMost, Bounded, of_cond, of_limited, list_of, list_both, list_limited}
 use Rattle.leb128.specs.Number.{read_unsigned}
-use Rattle.leb128.specs.declared.Unsigned.{Unsigned}
-use Rattle.leb128.specs.declared.Unsigned.TheVariants.{Value, Refused}
 use Rattle.leb128.proofs.Setting.{unsigned_value, unsigned_place}
 use Rattle.records.specs.Columns.{Each}
 use Rattle.records.specs.Identifier.{starts_with}
@@ -25,6 +23,8 @@ use Rattle.apr1_table.specs.Table.{Pair, pair, run, reach, expand, identifier, l
 use Rattle.apr1_table.specs.Table.Laws.{run_length, expand_none, expand_more}
 use Rattle.apr1_table.proofs.Refusals.{of_parse}
 use Rattle.apr1_table.proofs.RoundTrip.{table_most, encode_is, encode_legal}
+use Rattle.std.specs.Prelude.{Ok, Err}
+use Rattle.leb128.specs.Number.{Unsigned}
 
 -- C has 32 bits
 abbrev Few : Pair → Type 0
@@ -41,15 +41,15 @@ module _ (strict : Bool) (s : List ℕ) where
   -- a pair has at least two bytes
   second_moves : (at x c next : ℕ) → at < next → (u : Unsigned) → read_unsigned strict 32 s next ≡ u → Moves 2 (length s) at (second_of at x c u)
   unfolding second_of
-  second_moves at x c next h (Value d past) e =
+  second_moves at x c next h (Ok (d , past)) e =
       let v = unsigned_value strict 32 s next d past e in
       of_cond (Moves 2 (length s) at) (inside x c d) (one (pair c d) past (reach x (pair c d))) (none Space at) (omega (arith, v.1), v.2) tt
-  second_moves at x c next h (Refused why p) e = tt
+  second_moves at x c next h (Err bad) e = tt
 
   first_moves : (at x : ℕ) (u : Unsigned) → read_unsigned strict 32 s at ≡ u → Moves 2 (length s) at (first_of strict s at x u)
   unfolding first_of
-  first_moves at x (Value c next) e = second_moves at x c next (unsigned_value strict 32 s at c next e).1 (read_unsigned strict 32 s next) refl
-  first_moves at x (Refused why p) e = tt
+  first_moves at x (Ok (c , next)) e = second_moves at x c next (unsigned_value strict 32 s at c next e).1 (read_unsigned strict 32 s next) refl
+  first_moves at x (Err bad) e = tt
 
   moves : (at x : ℕ) → Moves 2 (length s) at (step_at strict s at x)
   unfolding step_at
@@ -57,13 +57,13 @@ module _ (strict : Bool) (s : List ℕ) where
 
   second_few : (at x c : ℕ) → c < 2 ^ 32 → (u : Unsigned) → Yields Few (second_of at x c u)
   unfolding second_of
-  second_few at x c h (Value d past) = of_cond (Yields Few) (inside x c d) (one (pair c d) past (reach x (pair c d))) (none Space at) h tt
-  second_few at x c h (Refused why p) = tt
+  second_few at x c h (Ok (d , past)) = of_cond (Yields Few) (inside x c d) (one (pair c d) past (reach x (pair c d))) (none Space at) h tt
+  second_few at x c h (Err e) = tt
 
   first_few : (at x : ℕ) (u : Unsigned) → read_unsigned strict 32 s at ≡ u → Yields Few (first_of strict s at x u)
   unfolding first_of
-  first_few at x (Value c next) e = second_few at x c (unsigned_value strict 32 s at c next e).0 (read_unsigned strict 32 s next)
-  first_few at x (Refused why p) e = tt
+  first_few at x (Ok (c , next)) e = second_few at x c (unsigned_value strict 32 s at c next e).0 (read_unsigned strict 32 s next)
+  first_few at x (Err bad) e = tt
 
   few : (at x : ℕ) → Yields Few (step_at strict s at x)
   unfolding step_at
@@ -88,15 +88,15 @@ module _ (strict : Bool) (s : List ℕ) where
 
     from_first : (n at : ℕ) (u : Unsigned) → read_unsigned strict 32 s at ≡ u → OfList Long (with_first strict s n at u)
     unfolding with_first
-    from_first n at (Value a past) e =
+    from_first n at (Ok (a , past)) e =
         let rest = records (step_at strict s) (length s) n past a in
         of_cond (OfList Long) (leb a last) (joined a rest) (refused Space at) (joins a rest (pairs_most (length s) n past a (unsigned_value strict 32 s at a past e).2)) tt
-    from_first n at (Refused why p) e = tt
+    from_first n at (Err x) e = tt
 
     from_count : (u : Unsigned) → OfList Long (with_count strict s u)
     unfolding with_count
-    from_count (Value n next) = from_first n next (read_unsigned strict 32 s next) refl
-    from_count (Refused why p) = tt
+    from_count (Ok (n , next)) = from_first n next (read_unsigned strict 32 s next) refl
+    from_count (Err e) = tt
 
     most : OfList Long (parse strict s)
     unfolding parse

@@ -16,7 +16,6 @@ use Rattle.answer.proofs.Limits.{list_most, list_small}
 use Rattle.answer.specs.Outcome.{Outcome, accepted, input_limit, list_limit, refused}
 use Rattle.answer.specs.Outcome.Laws.{accepted_refused, limited_over, limited_in, limited_accepted}
 use Rattle.leb128.specs.Number.{read_unsigned, short_unsigned}
-use Rattle.leb128.specs.declared.Unsigned.TheVariants.{Value}
 use Rattle.records.specs.Columns.{Each}
 use Rattle.records.specs.Identifier.{starts_with}
 use Rattle.records.specs.Identifier.Laws.{starts_same}
@@ -29,6 +28,7 @@ use Rattle.apr1_table.specs.Table.{identifier, last, Pair, pair, run, reach, exp
 use Rattle.apr1_table.specs.Table.Laws.{run_more, expand_none, expand_more, step_is, joined_is}
 use Rattle.apr1_table.specs.Inner.{head_in, pairs_in, table_in}
 use Rattle.apr1_table.proofs.Pairs.{one_bytes, one_most, pair_bytes_none, pair_bytes_more, head_bytes, head_most, table_bytes_law, checked_space, checked_order, checked_more, rising_checked, build_none, from_head, build_is}
+use Rattle.leb128.specs.Number.{ok_at}
 
 -- ---- the lists that have a table: not empty, rising, inside the space
 checked_rising : (i lo : ℕ) (l : List ℕ) (o : Outcome (List ℕ)) (b : List ℕ) → checked i lo l o ≡ accepted b → Rising lo l
@@ -196,7 +196,7 @@ pair_back strict pre post b s p g f e = go (dec_le (reach s p) last)
         (subst (λ (m : List ℕ). step_at strict (pre ++ (m ++ post)) (length pre) s ≡ one p (length pre + length m) (reach s p)) k (read_pair strict pre post s p g f h), h)
 
 -- ---- a table whose head and pairs are read
-parse_at : (strict : Bool) (s : List ℕ) (n a next first : ℕ) {ps : List Pair} → starts_with identifier s ≡ true → read_unsigned strict 32 s 4 ≡ Value n next → read_unsigned strict 32 s next ≡ Value a first → a ≤ last
+parse_at : (strict : Bool) (s : List ℕ) (n a next first : ℕ) {ps : List Pair} → starts_with identifier s ≡ true → read_unsigned strict 32 s 4 ≡ ok_at n next → read_unsigned strict 32 s next ≡ ok_at a first → a ≤ last
     → records (step_at strict s) (length s) n first a ≡ accepted ps → parse strict s ≡ accepted (a ∷ expand a ps)
 unfolding parse with_count with_first
 parse_at strict s n a next first i c d h e = rw (i, c, d, le-leb a last h) (joined_is a e)

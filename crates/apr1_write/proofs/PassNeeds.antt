@@ -17,7 +17,6 @@ use Rattle.answer.proofs.Limits.{list_small}
 use Rattle.answer.specs.Outcome.{Outcome, accepted, refused, success, refusal, no_room, list_limit, itself, found_of, Gives, filled}
 use Rattle.answer.specs.Outcome.Laws.{filled_self, found_accepted, gives_refused, gives_short, gives_full}
 use Rattle.answer.specs.Written.{Written, written_then, written_long}
-use Rattle.answer.specs.declared.Found.TheVariants.{Count}
 use Rattle.apr1_write.specs.declared.Sized.{Sized}
 use Rattle.apr1_write.specs.declared.Sized.TheVariants as sized
 use Rattle.apr1_table.specs.Table.{last, Pair, pair, pair_then, pairs_from, one_pair, pair_bytes, head_of, checked, build, Rising, Writable, encode}
@@ -25,6 +24,7 @@ use Rattle.apr1_table.specs.Inner.{Run, head_in, pairs_in, table_in}
 use Rattle.apr1_write.specs.Inner.{Countable, Sizable, Sizes, Puttable, PairsPut, Encodable, TablePut, SizesIn}
 use Rattle.apr1_table.proofs.Pairs.{one_most, pair_bytes_none, pair_bytes_append, pair_bytes_more, head_most, table_bytes_law, checked_space, checked_order, checked_more, rising_rest, build_none, from_head, build_is, step_checked, step_rising, step_pairs}
 use Rattle.apr1_table.proofs.RoundTrip.{encode_over, encode_in, encode_accepts}
+use Rattle.std.specs.Prelude.{Ok}
 
 -- ---- a run of k more equal gaps, which either pass counts
 module _ {l : List ℕ} {from y d k : ℕ} (r : Run l from y d k) where
@@ -289,7 +289,7 @@ module _ (l old : List ℕ) {r : Sized} where
     is : (n ≡ length (pairs_in l)) × (b ≡ length (table_in l)) × Writable l
     is = subst (Sizes l) e s
 
-    found : Count b ≡ found_of (encode l)
+    found : Ok b ≡ found_of (encode l)
     found = sym (found_accepted (record { list = table_in l; is = encode_accepts l is.2; long = sym is.1 }))
 
     pub write_short : {a : Answer} → length old < b → a ≡ no_room b → Gives (encode l) old a old

@@ -13,20 +13,21 @@ use borrow.Author.Rules.{rules}
 use Rattle.answer.specs.declared.Refusal.{Refusal}
 use Rattle.answer.specs.Written.{Written, written_then}
 use Rattle.leb128.specs.Number.{read_unsigned, short_unsigned, short_signed}
-use Rattle.leb128.specs.declared.Unsigned.{Unsigned}
-use Rattle.leb128.specs.declared.Unsigned.TheVariants.{Value as UValue, Refused as URefused}
 use Rattle.leb128.proofs.Setting.{unsigned_value}
 use Rattle.cases.specs.U32.{word_of, read_u32}
 use Rattle.cases.specs.declared.leb.Word.TheVariants.{Value, Refused}
+use Rattle.answer.specs.declared.Refused.{Refused}
+use Rattle.answer.specs.Outcome.{err_at}
+use Rattle.leb128.specs.Number.{Unsigned, ok_at}
 
 module _ (s : List ℕ) (at : ℕ) {r : Unsigned} (e : r ≡ read_unsigned false 32 s at) where
-  pub value_fits : {v next : ℕ} → r ≡ UValue v next → Fits w32 v
+  pub value_fits : {v next : ℕ} → r ≡ ok_at v next → Fits w32 v
   value_fits f = record { fits = (unsigned_value false 32 s at _ _ (sym e ∙ f)).0 }
 
-  pub value_is : {v next : ℕ} → r ≡ UValue v next → Value v next ≡ read_u32 s at
+  pub value_is : {v next : ℕ} → r ≡ ok_at v next → Value v next ≡ read_u32 s at
   value_is f = ap word_of (sym f ∙ e)
 
-  pub refusal_is : {why : Refusal} {place : ℕ} → r ≡ URefused why place → Refused why place ≡ read_u32 s at
+  pub refusal_is : {why : Refusal} {place : ℕ} → r ≡ err_at why place → Refused why place ≡ read_u32 s at
   refusal_is f = ap word_of (sym f ∙ e)
 
 module _ (out : List ℕ) (at x : ℕ) (y : ℤ) where

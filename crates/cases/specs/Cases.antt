@@ -13,8 +13,6 @@ use Rattle.relr_table.specs.Words as relr
 use Rattle.relr_table.specs.Table.{parse, decode, checked, build, encode, leading, contained, targets, indexes, added, patched}
 use Rattle.relr_table.specs.Contract.{changed, image_after}
 use Rattle.leb128.specs.Number.{raw, lax_unsigned, read_unsigned, signed, lax_signed, read_signed, short, short_by, short_unsigned, short_signed}
-use Rattle.leb128.specs.declared.Unsigned.TheVariants.{Value as UValue}
-use Rattle.leb128.specs.declared.Signed.TheVariants.{Value as SValue}
 use Rattle.answer.specs.declared.Refusal.TheVariants.{Width, Space, Outside, Padded, Zero}
 use Rattle.answer.specs.Outcome.{Outcome, accepted, refused, input_limit, list_limit, before, after}
 use Rattle.records.specs.Columns.{Each}
@@ -25,6 +23,7 @@ use Rattle.wrap.specs.Wrap.{residue, signed_in, same}
 use Rattle.apr1_table.specs.Table as apr1
 use Rattle.apa1_table.specs.Table as apa1
 use Rattle.relleb_table.specs.Table as relleb
+use Rattle.leb128.specs.Number.{ok_at}
 
 -- a row: what is written and what it stands for, to be read and to be written; the bytes of words, low byte first and high byte first; a table that
 -- is applied: its words, the base, the start, the words of the image before, the outcome and the words of the image after; or the bytes of a table
@@ -72,8 +71,8 @@ Either f lax strict = (f false ≡ lax) × (f true ≡ strict)
 -- order, decode to the list, by each setting, and are its table; in each order a table that is applied has that outcome, and makes of the one image
 -- the other; another table has those outcomes laxly and strictly
 pub Holds : Case → Type 0
-Holds (unsigned_number width bytes v) = ByBoth (λ (t : Bool). read_unsigned t width bytes 0 ≡ UValue v (length bytes)) × (short_unsigned v ≡ bytes)
-Holds (signed_number width bytes z) = ByBoth (λ (t : Bool). read_signed t width bytes 0 ≡ SValue z (length bytes)) × (short_signed z ≡ bytes)
+Holds (unsigned_number width bytes v) = ByBoth (λ (t : Bool). read_unsigned t width bytes 0 ≡ ok_at v (length bytes)) × (short_unsigned v ≡ bytes)
+Holds (signed_number width bytes z) = ByBoth (λ (t : Bool). read_signed t width bytes 0 ≡ ok_at z (length bytes)) × (short_signed z ≡ bytes)
 Holds (relr_table z offsets words) = InBoth (Packed z offsets words)
 Holds (relr_laid z words low high) = (bytes_of_words (class_in z Little) words ≡ low) × (bytes_of_words (class_in z Big) words ≡ high)
 Holds (relr_applied z words base start old o new) = InBoth (PatchedTo z words base start old o new)

@@ -2,15 +2,16 @@
 -- Assumes nothing.
 use Rattle.std.specs.Prelude.{ℕ, false, List}
 use Rattle.leb128.specs.Number.{read_unsigned}
-use Rattle.leb128.specs.declared.Unsigned.{Unsigned}
-use Rattle.leb128.specs.declared.Unsigned.TheVariants.{Value as UValue, Refused as URefused}
 use Rattle.cases.specs.declared.leb.Word.{Word}
 use Rattle.cases.specs.declared.leb.Word.TheVariants.{Value, Refused}
+use Rattle.std.specs.Prelude.{Ok, Err}
+use Rattle.answer.specs.declared.Refused.{Refused}
+use Rattle.leb128.specs.Number.{Unsigned}
 
 -- the same value or refusal
 abbrev pub word_of : Unsigned → Word
-word_of (UValue v next) = Value v next
-word_of (URefused why place) = Refused why place
+word_of (Ok (v , next)) = Value v next
+word_of (Err e) = Refused e.why e.place
 
 -- what is read at a place
 abbrev pub read_u32 : List ℕ → ℕ → Word

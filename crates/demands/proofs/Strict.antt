@@ -21,10 +21,6 @@ use Rattle.answer.specs.Said.{Said}
 use Rattle.answer.specs.Unless.{Unless, same, but, unless_then, unless_cond, unless_map}
 use Rattle.leb128.specs.Number.{lax_unsigned, lax_signed, read_unsigned, read_signed}
 use Rattle.leb128.specs.Longer.{LongerUnsigned, LongerSigned}
-use Rattle.leb128.specs.declared.Signed.{Signed}
-use Rattle.leb128.specs.declared.Signed.TheVariants.{Value, Refused}
-use Rattle.leb128.specs.declared.Unsigned.{Unsigned}
-use Rattle.leb128.specs.declared.Unsigned.TheVariants.{Value as UValue, Refused as URefused}
 use Rattle.leb128.proofs.Setting.{lax_unsigned_law, lax_signed_law}
 use Rattle.std.specs.Prelude.{Option}
 use Rattle.word.specs.declared.Size.{Size}
@@ -43,6 +39,9 @@ use Rattle.relleb_table.specs.Table as relleb
 use Rattle.relleb_table.specs.Table.Setting as relleb-setting
 use Rattle.relleb_table.specs.Contract as relleb-contract
 use Rattle.demands.specs.Lax.{pair_first, pair_at, with_first, with_count, apr1_decode, Apr1Reads, row_first, row_at, count_of, apa1_decode, apa1_decoding, Apa1Reads, with_addend, with_symbol, with_type, with_offset, record_at, relleb_decode, relleb_decoding, RellebReads}
+use Rattle.std.specs.Prelude.{Ok, Err}
+use Rattle.answer.specs.Outcome.{err_at}
+use Rattle.leb128.specs.Number.{Unsigned, Signed}
 
 -- of no refusal
 abbrev Never : Said
@@ -56,32 +55,32 @@ never (but why p e h) = absurd h
 module _ (s : List ℕ) where
   first_lax : (at x : ℕ) (u : Unsigned) → Unless none Never (apr1.first_of false s at x u) (pair_first s at x u)
   unfolding apr1.first_of pair_first
-  first_lax at x (UValue c next) = same (ap (apr1.second_of at x c) (lax_unsigned_law 32 s next))
-  first_lax at x (URefused why p) = same refl
+  first_lax at x (Ok (c , next)) = same (ap (apr1.second_of at x c) (lax_unsigned_law 32 s next))
+  first_lax at x (Err e) = same refl
 
   pair_lax : (at x : ℕ) → Unless none Never (apr1.step_at false s at x) (pair_at s at x)
   unfolding apr1.step_at apr1.first_of pair_at
   pair_lax at x =
-      unless_then URefused none Never (apr1.first_of false s at x) (pair_first s at x) (λ why p. refl) (first_lax at x) (read_unsigned false 32 s at) (lax_unsigned 32 s at) (same (lax_unsigned_law 32 s at))
+      unless_then err_at none Never (apr1.first_of false s at x) (pair_first s at x) (λ why p. refl) (first_lax at x) (read_unsigned false 32 s at) (lax_unsigned 32 s at) (same (lax_unsigned_law 32 s at))
 
   offset_lax : (n at : ℕ) (u : Unsigned) → Unless refused Never (apr1.with_first false s n at u) (with_first s n at u)
   unfolding apr1.with_first with_first
-  offset_lax n at (UValue a past) =
+  offset_lax n at (Ok (a , past)) =
       same (ap (λ (o : Outcome (List apr1.Pair)). cond (leb a apr1.last) (apr1.joined a o) (refused Space at)) (never (unless_records Never (apr1.step_at false s) (pair_at s) (length s) pair_lax n past a)))
-  offset_lax n at (URefused why p) = same refl
+  offset_lax n at (Err e) = same refl
 
   count_lax : (u : Unsigned) → Unless refused Never (apr1.with_count false s u) (with_count s u)
   unfolding apr1.with_count apr1.with_first with_count
-  count_lax (UValue n next) =
-      unless_then URefused refused Never (apr1.with_first false s n next) (with_first s n next) (λ why p. refl) (offset_lax n next) (read_unsigned false 32 s next) (lax_unsigned 32 s next) (same (lax_unsigned_law 32 s next))
-  count_lax (URefused why p) = same refl
+  count_lax (Ok (n , next)) =
+      unless_then err_at refused Never (apr1.with_first false s n next) (with_first s n next) (λ why p. refl) (offset_lax n next) (read_unsigned false 32 s next) (lax_unsigned 32 s next) (same (lax_unsigned_law 32 s next))
+  count_lax (Err e) = same refl
 
   apr1_before : apr1.decode false s ≡ apr1_decode s
   unfolding apr1.decode apr1.parse apr1.with_count apr1_decode
   apr1_before =
       let at = length apr1.identifier in
       ap (λ (o : Outcome (List ℕ)). cond (leb (length s) input_limit) (cond (starts_with apr1.identifier s) o (refused Identifier 0)) (refused Limit 0))
-      (never (unless_then URefused refused Never (apr1.with_count false s) (with_count s) (λ why p. refl) count_lax (read_unsigned false 32 s at) (lax_unsigned 32 s at) (same (lax_unsigned_law 32 s at))))
+      (never (unless_then err_at refused Never (apr1.with_count false s) (with_count s) (λ why p. refl) count_lax (read_unsigned false 32 s at) (lax_unsigned 32 s at) (same (lax_unsigned_law 32 s at))))
 
   pub apr1_lax : {column new : List ℕ} {r : Answer} → apr1-contract.Reads false s column r new → Apr1Reads s column r new
   apr1_lax {column} {new} {r} d = subst (λ (o : Outcome (List ℕ)). Gives o column r new) apr1_before d
@@ -90,25 +89,25 @@ module _ (s : List ℕ) where
 module _ (s : List ℕ) where
   second_lax : (prev : apa1.Row) (u : Signed) → Unless none Never (apa1.first_of false s prev u) (row_first s prev u)
   unfolding apa1.first_of row_first
-  second_lax prev (Value d next) = same (ap (apa1.second_of prev d) (lax_signed_law 64 s next))
-  second_lax prev (Refused why p) = same refl
+  second_lax prev (Ok (d , next)) = same (ap (apa1.second_of prev d) (lax_signed_law 64 s next))
+  second_lax prev (Err e) = same refl
 
   row_lax : (at : ℕ) (prev : apa1.Row) → Unless none Never (apa1.step_at false s at prev) (row_at s at prev)
   unfolding apa1.step_at apa1.first_of row_at
   row_lax at prev =
-      unless_then Refused none Never (apa1.first_of false s prev) (row_first s prev) (λ why p. refl) (second_lax prev) (read_signed false 64 s at) (lax_signed 64 s at) (same (lax_signed_law 64 s at))
+      unless_then err_at none Never (apa1.first_of false s prev) (row_first s prev) (λ why p. refl) (second_lax prev) (read_signed false 64 s at) (lax_signed 64 s at) (same (lax_signed_law 64 s at))
 
   number_lax : (u : Signed) → apa1.count_of u u ≡ count_of u
   unfolding apa1.count_of apa1.plain count_of
-  number_lax (Value (pos n) first) = refl
-  number_lax (Value (negsuc n) first) = refl
-  number_lax (Refused why p) = refl
+  number_lax (Ok ((pos n) , first)) = refl
+  number_lax (Ok ((negsuc n) , first)) = refl
+  number_lax (Err e) = refl
 
-  head_lax : apa1.head_at false s ≡ cond (starts_with apa1.identifier s) (count_of (lax_signed 64 s (length apa1.identifier))) (URefused Identifier 0)
+  head_lax : apa1.head_at false s ≡ cond (starts_with apa1.identifier s) (count_of (lax_signed 64 s (length apa1.identifier))) (err_at Identifier 0)
   unfolding apa1.head_at
   head_lax =
       let at = length apa1.identifier in
-      ap (λ (u : Unsigned). cond (starts_with apa1.identifier s) u (URefused Identifier 0)) (number_lax (read_signed false 64 s at) ∙ ap count_of (lax_signed_law 64 s at))
+      ap (λ (u : Unsigned). cond (starts_with apa1.identifier s) u (err_at Identifier 0)) (number_lax (read_signed false 64 s at) ∙ ap count_of (lax_signed_law 64 s at))
 
   apa1_before : apa1.decode false s ≡ apa1_decode s
   unfolding apa1.decode apa1.parse apa1_decode
@@ -126,24 +125,24 @@ module _ (s : List ℕ) where
 module _ (W : ℕ) (s : List ℕ) where
   addend_lax : (at : ℕ) (base : ℤ) (o t y : ℕ) (u : Signed) → relleb.with_addend false W at base o t y u ≡ with_addend W base o t y u
   unfolding relleb.with_addend with_addend
-  addend_lax at base o t y (Value e past) = refl
-  addend_lax at base o t y (Refused why p) = refl
+  addend_lax at base o t y (Ok (e , past)) = refl
+  addend_lax at base o t y (Err e) = refl
 
   symbol_lax : (base : ℤ) (o t : ℕ) (u : Signed) → relleb.with_symbol false W s base o t u ≡ with_symbol W s base o t u
   unfolding relleb.with_symbol with_symbol
-  symbol_lax base o t (Value (pos y) next) = refl
-  symbol_lax base o t (Value (negsuc y) next) = ap (relleb.with_addend false W next base o t y) (lax_signed_law W s next) ∙ addend_lax next base o t y (lax_signed W s next)
-  symbol_lax base o t (Refused why p) = refl
+  symbol_lax base o t (Ok ((pos y) , next)) = refl
+  symbol_lax base o t (Ok ((negsuc y) , next)) = ap (relleb.with_addend false W next base o t y) (lax_signed_law W s next) ∙ addend_lax next base o t y (lax_signed W s next)
+  symbol_lax base o t (Err e) = refl
 
   type_lax : (prev : relleb.State) (o : ℕ) (u : Signed) → relleb.with_type false W s prev o u ≡ with_type W s prev o u
   unfolding relleb.with_type with_type
-  type_lax prev o (Value d next) = ap (relleb.with_symbol false W s prev.addend o _) (lax_signed_law 33 s next) ∙ symbol_lax prev.addend o _ (lax_signed 33 s next)
-  type_lax prev o (Refused why p) = refl
+  type_lax prev o (Ok (d , next)) = ap (relleb.with_symbol false W s prev.addend o _) (lax_signed_law 33 s next) ∙ symbol_lax prev.addend o _ (lax_signed 33 s next)
+  type_lax prev o (Err e) = refl
 
   move_lax : (prev : relleb.State) (u : Unsigned) → relleb.with_offset false W s prev u ≡ with_offset W s prev u
   unfolding relleb.with_offset with_offset
-  move_lax prev (UValue d next) = ap (relleb.with_type false W s prev _) (lax_signed_law 32 s next) ∙ type_lax prev _ (lax_signed 32 s next)
-  move_lax prev (URefused why p) = refl
+  move_lax prev (Ok (d , next)) = ap (relleb.with_type false W s prev _) (lax_signed_law 32 s next) ∙ type_lax prev _ (lax_signed 32 s next)
+  move_lax prev (Err e) = refl
 
   record_lax : (at : ℕ) (prev : relleb.State) → Unless none Never (relleb.step_at false W s at prev) (record_at W s at prev)
   unfolding relleb.step_at record_at

@@ -12,17 +12,11 @@ use mir.Val.{Fits}
 use borrow.Author.Rules.{rules, scaled_Fits}
 use Rattle.answer.specs.declared.Refusal.{Refusal}
 use Rattle.answer.specs.declared.Refusal.TheVariants.{Limit, Trailing}
-use Rattle.answer.specs.declared.Found.{Found}
-use Rattle.answer.specs.declared.Found.TheVariants as found
 use Rattle.answer.specs.Outcome.{Outcome, input_limit, found_of}
 use Rattle.answer.specs.Outcome.Laws.{accepted_refused, found_refused}
 use Rattle.leb128.specs.Number.{read_unsigned}
 use Rattle.leb128.specs.Cause.{unsigned_cause, signed_cause, signed_cause_law}
 use Rattle.leb128.specs.declared.Cause.{Cause}
-use Rattle.leb128.specs.declared.Signed.{Signed}
-use Rattle.leb128.specs.declared.Signed.TheVariants.{Value as SValue, Refused as SRefused}
-use Rattle.leb128.specs.declared.Unsigned.{Unsigned}
-use Rattle.leb128.specs.declared.Unsigned.TheVariants.{Value as UValue, Refused as URefused}
 use Rattle.records.specs.Columns.{Column}
 use Rattle.records.specs.Columns.Laws.{column_none, column_next, column_same, column_filled}
 use Rattle.records.specs.Reading.{records}
@@ -35,6 +29,10 @@ use Rattle.relleb_table.specs.Table.Laws.{parse_is, decode_over, decode_in, deco
 use Rattle.relleb_table.specs.Contract.{offset_of, type_of, symbol_of, addend_of, Filled}
 use Rattle.relleb_table.specs.Inner.{Fillable}
 use Rattle.relleb_read.specs.Inner.{entry_step, Skips}
+use Rattle.std.specs.Prelude.{Result, Ok}
+use Rattle.answer.specs.declared.Refused.{Refused}
+use Rattle.answer.specs.Outcome.{err_at}
+use Rattle.leb128.specs.Number.{Unsigned, Signed, ok_at}
 
 -- the records of a table that has so many from a place on
 abbrev pub body : Bool → ℕ → List ℕ → ℕ → ℕ → Outcome (List Row)
@@ -50,16 +48,16 @@ walk_begin strict W s n first = record { prev = start; scanned = scanned_none (s
 
 module _ {strict : Bool} {W : ℕ} {s : List ℕ} {n first left at : ℕ} (i : Walking strict W s n first left at) where
   module _ (x : Signed) (h : 0 < left) (e : Skips strict W s at x) where
-    pub walk_more : {z : ℤ} {past : ℕ} → x ≡ SValue z past → Walking strict W s n first (left - 1) past
+    pub walk_more : {z : ℤ} {past : ℕ} → x ≡ ok_at z past → Walking strict W s n first (left - 1) past
     walk_more f = let (y, next, g) = subst (Skips strict W s at) f e i.prev in record { prev = next; scanned = scanned_more i.scanned h g }
 
-    pub walk_bad : {k : Cause} {why : Refusal} {p : ℕ} → x ≡ SRefused why p → k ≡ signed_cause x → found.Refused k.why k.place ≡ found_of (body strict W s n first)
+    pub walk_bad : {k : Cause} {why : Refusal} {p : ℕ} → x ≡ err_at why p → k ≡ signed_cause x → err_at k.why k.place ≡ found_of (body strict W s n first)
     walk_bad f g = scanned_bad i.scanned h (subst (Skips strict W s at) (signed_cause_law f g) e i.prev)
 
-  pub walk_end : left ≤ 0 → length s ≤ at → found.Count n ≡ found_of (body strict W s n first)
+  pub walk_end : left ≤ 0 → length s ≤ at → Ok n ≡ found_of (body strict W s n first)
   walk_end h k = scanned_end i.scanned h k
 
-  pub walk_over : left ≤ 0 → at < length s → found.Refused Trailing at ≡ found_of (body strict W s n first)
+  pub walk_over : left ≤ 0 → at < length s → err_at Trailing at ≡ found_of (body strict W s n first)
   walk_over h k = scanned_over i.scanned h k
 
 pub ruleset walks = (walk_begin, walk_more, walk_bad, walk_end, walk_over, rules)
@@ -158,35 +156,35 @@ pub ruleset stores = (store_begin, store_same, store_same_2, store_same_3, store
 
 -- ---- from the count on
 module _ (strict : Bool) (W : ℕ) (s : List ℕ) {u : Unsigned} (e : u ≡ read_unsigned strict 64 s 0) where
-  whole : {n first : ℕ} → u ≡ UValue n first → parse strict W s ≡ body strict W s n first
+  whole : {n first : ℕ} → u ≡ ok_at n first → parse strict W s ≡ body strict W s n first
   whole f = parse_is strict W s ∙ counted_records (step_at strict W s) (length s) start (sym e ∙ f)
 
-  pub scan_not : {k : Cause} {why : Refusal} {p : ℕ} → u ≡ URefused why p → k ≡ unsigned_cause u → found.Refused k.why k.place ≡ found_of (parse strict W s)
+  pub scan_not : {k : Cause} {why : Refusal} {p : ℕ} → u ≡ err_at why p → k ≡ unsigned_cause u → err_at k.why k.place ≡ found_of (parse strict W s)
   scan_not f g = rw (parse_is strict W s) (count_not (step_at strict W s) (length s) start (sym e ∙ f) (g ∙ ap unsigned_cause e))
 
-  pub scan_is : {n first : ℕ} {r : Found} → u ≡ UValue n first → r ≡ found_of (body strict W s n first) → r ≡ found_of (parse strict W s)
+  pub scan_is : {n first : ℕ} {r : Result ℕ Refused} → u ≡ ok_at n first → r ≡ found_of (body strict W s n first) → r ≡ found_of (parse strict W s)
   scan_is f g = g ∙ ap found_of (sym (whole f))
 
   module _ {os ts ys : List ℕ} {us : List ℤ} (f : Fillable (decode strict W s) os ts ys us) where
-    all : {n first : ℕ} → u ≡ UValue n first → decode strict W s ≡ body strict W s n first
+    all : {n first : ℕ} → u ≡ ok_at n first → decode strict W s ≡ body strict W s n first
     all g = decode_in strict W s (decode_accepted strict W s f.fitting.is).0 ∙ whole g
 
-    pub fill_not : {why : Refusal} {p : ℕ} {os' ts' ys' : List ℕ} {us' : List ℤ} → u ≡ URefused why p → Filled (decode strict W s) os ts ys us os' ts' ys' us'
+    pub fill_not : {why : Refusal} {p : ℕ} {os' ts' ys' : List ℕ} {us' : List ℤ} → u ≡ err_at why p → Filled (decode strict W s) os ts ys us os' ts' ys' us'
     fill_not g = absurd (accepted_refused (decode_accepted strict W s f.fitting.is).1 (parse_is strict W s ∙ counted_not (step_at strict W s) (length s) start (sym e ∙ g)))
 
-    pub fill_able : {n first : ℕ} → u ≡ UValue n first → Fillable (body strict W s n first) os ts ys us
+    pub fill_able : {n first : ℕ} → u ≡ ok_at n first → Fillable (body strict W s n first) os ts ys us
     fill_able g = rw (← all g) f
 
-    pub fill_is : {n first : ℕ} {os' ts' ys' : List ℕ} {us' : List ℤ} → u ≡ UValue n first → Filled (body strict W s n first) os ts ys us os' ts' ys' us' → Filled (decode strict W s) os ts ys us os' ts' ys' us'
+    pub fill_is : {n first : ℕ} {os' ts' ys' : List ℕ} {us' : List ℤ} → u ≡ ok_at n first → Filled (body strict W s n first) os ts ys us os' ts' ys' us' → Filled (decode strict W s) os ts ys us os' ts' ys' us'
     fill_is g h = rw (all g) h
 
 pub ruleset fills = (scan_not, scan_is, fill_not, fill_able, fill_is, rules)
 
 -- ---- the limit in front
-pub check_over : (strict : Bool) (W : ℕ) (s : List ℕ) → input_limit < length s → found.Refused Limit 0 ≡ found_of (decode strict W s)
+pub check_over : (strict : Bool) (W : ℕ) (s : List ℕ) → input_limit < length s → err_at Limit 0 ≡ found_of (decode strict W s)
 check_over strict W s h = sym (found_refused (decode_over strict W s h))
 
-pub check_in : (strict : Bool) (W : ℕ) (s : List ℕ) {r : Found} → length s ≤ input_limit → r ≡ found_of (parse strict W s) → r ≡ found_of (decode strict W s)
+pub check_in : (strict : Bool) (W : ℕ) (s : List ℕ) {r : Result ℕ Refused} → length s ≤ input_limit → r ≡ found_of (parse strict W s) → r ≡ found_of (decode strict W s)
 check_in strict W s h e = e ∙ ap found_of (sym (decode_in strict W s h))
 
 pub ruleset checks = (check_over, check_in, rules)

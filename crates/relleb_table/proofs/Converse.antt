@@ -14,10 +14,6 @@ use Rattle.answer.specs.Bytes.{Bytes}
 use Rattle.answer.specs.declared.Refusal.TheVariants.{Zero}
 use Rattle.answer.specs.Outcome.{accepted, list_limit}
 use Rattle.leb128.specs.Number.{IsWidth, read_unsigned, read_signed, short_unsigned, short_signed}
-use Rattle.leb128.specs.declared.Signed.{Signed}
-use Rattle.leb128.specs.declared.Signed.TheVariants.{Value, Refused}
-use Rattle.leb128.specs.declared.Unsigned.{Unsigned}
-use Rattle.leb128.specs.declared.Unsigned.TheVariants.{Value as UValue, Refused as URefused}
 use Rattle.leb128.proofs.Setting.{unsigned_value, signed_value}
 use Rattle.leb128.proofs.Strict.{strict_unsigned, strict_signed}
 use Rattle.records.specs.Columns.{zipped}
@@ -30,6 +26,8 @@ use Rattle.relleb_table.specs.Table.{Row, row, State, state, start, behind, no_c
 use Rattle.relleb_table.specs.Table.Laws.{parse_is, decode_accepted, entry_is, field_is, field_bytes_law, build_is, encode_in}
 use Rattle.relleb_table.specs.Contract.{offset_of, type_of, symbol_of, addend_of}
 use Rattle.relleb_table.proofs.RoundTrip.{put_is, Ranged}
+use Rattle.std.specs.Prelude.{Ok, Err}
+use Rattle.leb128.specs.Number.{Unsigned, Signed, ok_at}
 
 module _ (W : ℕ) (wide : IsWidth W) (s : List ℕ) (bytes : Bytes s) where
   -- ---- from the symbol field on: the record x, behind the addend `base`, has the offset o and the type t, and its bytes stand at a place
@@ -60,10 +58,10 @@ module _ (W : ℕ) (wide : IsWidth W) (s : List ℕ) (bytes : Bytes s) where
           absurd (omega arith)
       go false q = refl
 
-  from_addend : (base : ℤ) (o t y at next past : ℕ) (x : Row) (now : State) (u : Signed) → read_signed true 33 s at ≡ Value (negsuc y) next → read_signed true W s next ≡ u
+  from_addend : (base : ℤ) (o t y at next past : ℕ) (x : Row) (now : State) (u : Signed) → read_signed true 33 s at ≡ ok_at (negsuc y) next → read_signed true W s next ≡ u
       → with_addend true W next base o t y u ≡ one x past now → Tail base o t at x past now
   unfolding with_addend
-  from_addend base o t y at next past x now (Value e p) f g h = go (no_change true e) refl h
+  from_addend base o t y at next past x now (Ok (e , p)) f g h = go (no_change true e) refl h
     where
       a : ℤ
       a = wrapped W (base +ℤ e)
@@ -81,29 +79,29 @@ module _ (W : ℕ) (wide : IsWidth W) (s : List ℕ) (bytes : Bytes s) where
           strict_signed 33 s at (omega arith) bytes f ∙ ap (λ (t : List ℕ). v ++ t) (strict_signed W s next wide.0 bytes g ∙ ap (λ (n : ℕ). short_signed e ++ drop n s) q)
           ∙ sym (append_assoc v (short_signed e) (drop past s)) in
           rw (← is) (record { offset = refl; type = refl; ranged = wrapped_range W wide.0 _; state = cc; here = rw (k, c) w })
-  from_addend base o t y at next past x now (Refused why p) f g h = let z : ◌≡◌ {A = ℕ} 0 1 = cc in absurd (omega arith)
+  from_addend base o t y at next past x now (Err e) f g h = let z : ◌≡◌ {A = ℕ} 0 1 = cc in absurd (omega arith)
 
   from_symbol : (base : ℤ) (o t at past : ℕ) (x : Row) (now : State) (u : Signed) → mag base < 2 ^ (W - 1) → read_signed true 33 s at ≡ u
       → with_symbol true W s base o t u ≡ one x past now → Tail base o t at x past now
   unfolding with_symbol
-  from_symbol base o t at past x now (Value (pos y) next) h f g =
+  from_symbol base o t at past x now (Ok ((pos y) , next)) h f g =
       let is : row o t y base ≡ x = cc in
       let q : next ≡ past = cc in
       let v = short_signed (pos y) in
       let w : drop at s ≡ (v ++ []) ++ drop past s =
       strict_signed 33 s at (omega arith) bytes f ∙ ap₂ (λ (a : List ℕ) (n : ℕ). a ++ drop n s) (sym (append-nil v)) q in
       rw (← is) (record { offset = refl; type = refl; ranged = h; state = cc; here = rw (field_same base o t y) w })
-  from_symbol base o t at past x now (Value (negsuc y) next) h f g = from_addend base o t y at next past x now (read_signed true W s next) f refl g
-  from_symbol base o t at past x now (Refused why p) h f g = let z : ◌≡◌ {A = ℕ} 0 1 = cc in absurd (omega arith)
+  from_symbol base o t at past x now (Ok ((negsuc y) , next)) h f g = from_addend base o t y at next past x now (read_signed true W s next) f refl g
+  from_symbol base o t at past x now (Err e) h f g = let z : ◌≡◌ {A = ℕ} 0 1 = cc in absurd (omega arith)
 
   -- ---- a record: its differences are the numbers that stand there
   abbrev AsWritten : ℕ → State → Row → ℕ → State → Type 0
   AsWritten at prev x past now = Verbatim (put_of W) behind (Ranged W) s at prev x past now
 
-  from_type : (at next past d : ℕ) (prev : State) (x : Row) (now : State) (u : Signed) → Ranged W prev → read_unsigned true W s at ≡ UValue d next → read_signed true 32 s next ≡ u
+  from_type : (at next past d : ℕ) (prev : State) (x : Row) (now : State) (u : Signed) → Ranged W prev → read_unsigned true W s at ≡ ok_at d next → read_signed true 32 s next ≡ u
       → with_type true W s prev ((prev.offset + d) % 2 ^ W) u ≡ one x past now → AsWritten at prev x past now
   unfolding with_type
-  from_type at next past d prev x now (Value t p) r e f g =
+  from_type at next past d prev x now (Ok (t , p)) r e f g =
       let w : 0 < 32 = omega arith in
       let z = from_symbol prev.addend ((prev.offset + d) % 2 ^ W) (residue 32 (pos prev.type +ℤ t)) p past x now (read_signed true 33 s p) r refl g in
       let y = field_of prev.addend x in
@@ -121,12 +119,12 @@ module _ (W : ℕ) (wide : IsWidth W) (s : List ℕ) (bytes : Bytes s) where
         state = z.state;
         good = rw z.state z.ranged;
       }
-  from_type at next past d prev x now (Refused why p) r e f g = let z : ◌≡◌ {A = ℕ} 0 1 = cc in absurd (omega arith)
+  from_type at next past d prev x now (Err bad) r e f g = let z : ◌≡◌ {A = ℕ} 0 1 = cc in absurd (omega arith)
 
   from_offset : (at past : ℕ) (prev : State) (x : Row) (now : State) (u : Unsigned) → Ranged W prev → read_unsigned true W s at ≡ u → with_offset true W s prev u ≡ one x past now → AsWritten at prev x past now
   unfolding with_offset
-  from_offset at past prev x now (UValue d next) r e g = from_type at next past d prev x now (read_signed true 32 s next) r e refl g
-  from_offset at past prev x now (URefused why p) r e g = let z : ◌≡◌ {A = ℕ} 0 1 = cc in absurd (omega arith)
+  from_offset at past prev x now (Ok (d , next)) r e g = from_type at next past d prev x now (read_signed true 32 s next) r e refl g
+  from_offset at past prev x now (Err bad) r e g = let z : ◌≡◌ {A = ℕ} 0 1 = cc in absurd (omega arith)
 
   record_forth : (at : ℕ) (prev : State) (x : Row) (past : ℕ) (now : State) → Ranged W prev → step_at true W s at prev ≡ one x past now → AsWritten at prev x past now
   unfolding step_at

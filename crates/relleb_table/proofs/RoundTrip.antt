@@ -16,7 +16,6 @@ use Rattle.answer.specs.Outcome.{accepted, input_limit, list_limit}
 use Rattle.answer.specs.Outcome.Laws.{Accepts}
 use Rattle.answer.specs.Outcome.Laws as Outcome
 use Rattle.leb128.specs.Number.{IsWidth, read_unsigned, read_signed, short_unsigned, is_neg, short_signed}
-use Rattle.leb128.specs.declared.Unsigned.TheVariants.{Value as UValue}
 use Rattle.leb128.proofs.RoundTrip.{unsigned_bytes, signed_bytes}
 use Rattle.records.specs.Columns.{Each}
 use Rattle.records.specs.Columns.Laws.{At, each_of, column_of}
@@ -32,6 +31,7 @@ use Rattle.relleb_table.specs.Table.Laws.{change_taken, addend_is, symbol_same, 
 use Rattle.relleb_table.specs.Contract.{offset_of, type_of, symbol_of, addend_of, Same}
 use Rattle.relleb_table.specs.Contract.Laws.{many}
 use Rattle.relleb_table.proofs.Changes.{entry_changes}
+use Rattle.leb128.specs.Number.{ok_at}
 
 module _ (W : ℕ) where
   pub put_is : (prev : State) (x : Row) → InWidth W x → put_of W prev x ≡ bytes (entry_bytes W prev x)
@@ -169,7 +169,7 @@ module _ (strict : Bool) (W : ℕ) (wide : IsWidth W) where
   parse_build l {b} few fine e =
       let n = short_unsigned (length l) in
       let c = Outcome.behind n (puts (put_of W) behind 0 start l) (sym (build_is W l) ∙ e) in
-      let h : (strict : Bool) → read_unsigned strict 64 b 0 ≡ UValue (length l) (length n) = λ strict. unsigned_here strict 64 b [] c.rest 0 (omega arith) refl (length l) few c.whole in
+      let h : (strict : Bool) → read_unsigned strict 64 b 0 ≡ ok_at (length l) (length n) = λ strict. unsigned_here strict 64 b [] c.rest 0 (omega arith) refl (length l) few c.whole in
       parse_is strict W b ∙ counted_records (step_at strict W b) (length b) start (h _) ∙
       rw c.whole (back (step_at strict W) (put_of W) behind (Ranged W) Fine record_back l 0 start n (pow_pos (W - 1)) fine c.is)
 

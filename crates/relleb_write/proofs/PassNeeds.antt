@@ -13,7 +13,6 @@ use mir.Facts.{to_z-of_z}
 use borrow.Author.Rules.{rules, sfits_of}
 use Rattle.answer.specs.declared.Refusal.{Refusal}
 use Rattle.answer.specs.declared.Refusal.TheVariants.{Limit}
-use Rattle.answer.specs.declared.Found.TheVariants as found
 use Rattle.answer.proofs.Limits.{list_small}
 use Rattle.answer.specs.Outcome.{Outcome, list_limit, after, found_of}
 use Rattle.answer.specs.Outcome.Laws.{accepted_refused, found_refused, found_count, not_found}
@@ -32,6 +31,9 @@ use Rattle.relleb_table.specs.Contract.Laws.{many, class_width, measures_at}
 use Rattle.relleb_table.specs.Inner.{Listed, Measures, Puttable}
 use Rattle.relleb_table.proofs.RoundTrip.{put_is, decode_encode, rows_fine}
 use Rattle.relleb_write.specs.Inner.{fields_put, Measured}
+use Rattle.std.specs.Prelude.{Ok}
+use Rattle.answer.specs.declared.Refused.{Refused}
+use Rattle.answer.specs.Outcome.{err_at}
 
 -- a signed number as the code passes it on: by its bits
 abbrev Bits : ℤ → ℤ
@@ -86,7 +88,7 @@ module _ {W : ℕ} {os ts ys : List ℕ} {us : List ℤ} {total o t : ℕ} {w : 
           within = omega arith;
         }
 
-  pub size_end : length os ≤ i → IsWidth W → ((j : ℕ) → Fits w32 (get_or ts j 0)) → ((j : ℕ) → Fits w32 (get_or ys j 0)) → Measures W os ts ys us (found.Count total)
+  pub size_end : length os ≤ i → IsWidth W → ((j : ℕ) → Fits w32 (get_or ts j 0)) → ((j : ℕ) → Fits w32 (get_or ys j 0)) → Measures W os ts ys us (Ok total)
   size_end h wide kinds indexes =
       let p = sized_end g.sized (omega (arith, many os ts ys us l.same)) ∙ ap found_of (sym limit) in
       record {
@@ -106,7 +108,7 @@ module _ {W : ℕ} {os ts ys : List ℕ} {us : List ℤ} {total o t : ℕ} {w : 
 
 -- a refused record; at 64 bits there is none
 pub size_bad : {W : ℕ} {os ts ys : List ℕ} {us : List ℤ} {total o t : ℕ} {w : ℤ} {i : ℕ} {x : Fields} {why : Refusal} → x ≡ Refused why → fields_put x ≡ put_of W (state o t w) (row_at os ts ys us i)
-    → Sizing W os ts ys us total o t w i → Listed os ts ys us → i < length os → mag (get_or us i (pos 0)) < 2 ^ 63 → ((j : ℕ) → Fits w64 (get_or os j 0)) → Measures W os ts ys us (found.Refused why i)
+    → Sizing W os ts ys us total o t w i → Listed os ts ys us → i < length os → mag (get_or us i (pos 0)) < 2 ^ 63 → ((j : ℕ) → Fits w64 (get_or os j 0)) → Measures W os ts ys us (err_at why i)
 size_bad {W} {os} {ts} {ys} {us} {i = i} f e g l h m wide =
     let p = sized_bad g.sized (here os ts ys us l.same i h m) (sym e ∙ ap fields_put f) ∙ ap found_of (sym (limit l g)) in
     record {
@@ -119,7 +121,7 @@ pub ruleset sizes = (size_begin, size_bad, size_sum, size_more, size_end, size_i
 
 -- ---- the limit in front
 module _ (W : ℕ) {os ts ys : List ℕ} {us : List ℤ} (same : Same os ts ys us) where
-  pub measure_over : list_limit < length os → Measures W os ts ys us (found.Refused Limit 0)
+  pub measure_over : list_limit < length os → Measures W os ts ys us (err_at Limit 0)
   measure_over h =
       let e = encode_over W (rows os ts ys us) (omega (arith, many os ts ys us same)) in
       record { found = sym (found_refused e); back = λ strict b f. absurd (accepted_refused f e); wide = λ v k. absurd (omega arith) }

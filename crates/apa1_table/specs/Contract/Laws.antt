@@ -5,8 +5,6 @@ use Rattle.std.proofs.Common.{ap, sym, ◌∙◌, arith, rules, eq-eqb, ne_eqb, 
 use Rattle.answer.specs.declared.Answer.{Answer}
 use Rattle.answer.specs.declared.Refusal.{Refusal}
 use Rattle.answer.specs.declared.Refusal.TheVariants.{Columns}
-use Rattle.answer.specs.declared.Found.{Found}
-use Rattle.answer.specs.declared.Found.TheVariants as found
 use Rattle.answer.specs.Outcome.{Outcome, accepted, refused, success, refusal, no_room, Gives, found_of, itself, filled}
 use Rattle.answer.specs.Outcome.Laws.{accepted_refused, cond_accepted, answer_fits, answer_long, answer_refused, filled_long, filled_refused, Counted, found_count, not_found, gives_refused, gives_not, gives_short, gives_full, gives_zero}
 use Rattle.records.specs.Writing.{Fits, Puts}
@@ -15,6 +13,9 @@ use Rattle.apa1_table.specs.Table.{Row, decode, rows, encode}
 use Rattle.apa1_table.specs.Table.Setting.{decode_lax}
 use Rattle.apa1_table.specs.Contract.{offset_of, addend_of, decoding, Filled, Reads, encoding, Writes}
 use Rattle.apa1_table.specs.Inner.{Fillable, Measures}
+use Rattle.std.specs.Prelude.{Result, Ok}
+use Rattle.answer.specs.declared.Refused.{Refused}
+use Rattle.answer.specs.Outcome.{err_at}
 
 -- ---- reading
 module _ (strict : Bool) (s : List ℕ) (m k : ℕ) where
@@ -46,14 +47,14 @@ module _ (strict : Bool) (s os : List ℕ) (us : List ℤ) where
   reads_uneven a h = refuses a (read_uneven strict s (length os) (length us) h)
 
   -- f is what the first pass found
-  module _ {f : Found} (e : f ≡ found_of (decode strict s)) (same : length os ≡ length us) where
+  module _ {f : Result ℕ Refused} (e : f ≡ found_of (decode strict s)) (same : length os ≡ length us) where
     plain : decoding strict s (length os) (length us) ≡ decode strict s
     plain = read_plain strict s (length os) (length us) same
 
-    pub reads_not : {r : Answer} {why : Refusal} {p : ℕ} → f ≡ found.Refused why p → r ≡ refusal why p → Reads strict s os us r os us
+    pub reads_not : {r : Answer} {why : Refusal} {p : ℕ} → f ≡ err_at why p → r ≡ refusal why p → Reads strict s os us r os us
     reads_not g a = refuses a (plain ∙ not_found (decode strict s) (sym e ∙ g))
 
-    module _ {k : ℕ} (g : f ≡ found.Count k) where
+    module _ {k : ℕ} (g : f ≡ Ok k) where
       all : Counted (decode strict s) k
       all = found_count (decode strict s) (sym e ∙ g)
 
@@ -90,7 +91,7 @@ module _ (os : List ℕ) (us : List ℤ) where
         let g = gives_refused old a e in
         record { gives = g; back = λ strict z. absurd (accepted_refused (gives_zero g z) e) }
 
-    module _ {f : Found} (m : Measures os us f) (same : length os ≡ length us) where
+    module _ {f : Result ℕ Refused} (m : Measures os us f) (same : length os ≡ length us) where
       found_is : f ≡ found_of (encoding os us)
       found_is = m.found ∙ ap found_of (sym (write_plain same))
 
@@ -98,10 +99,10 @@ module _ (os : List ℕ) (us : List ℤ) where
       wrote : {r : Answer} {new : List ℕ} → Gives (encoding os us) old r new → Writes os us old r new
       wrote g = record { gives = g; back = λ strict z. m.back strict _ (sym (write_plain same) ∙ gives_zero g z) }
 
-      pub writes_not : {r : Answer} {why : Refusal} {p : ℕ} → f ≡ found.Refused why p → r ≡ refusal why p → Writes os us old r old
+      pub writes_not : {r : Answer} {why : Refusal} {p : ℕ} → f ≡ err_at why p → r ≡ refusal why p → Writes os us old r old
       writes_not e a = wrote (gives_not old found_is e a)
 
-      module _ {k : ℕ} (e : f ≡ found.Count k) where
+      module _ {k : ℕ} (e : f ≡ Ok k) where
         pub writes_long : {r : Answer} → r ≡ no_room k → length old < k → Writes os us old r old
         writes_long a h = wrote (gives_short old found_is e h a)
 

@@ -10,9 +10,6 @@ use Rattle.answer.specs.declared.Refusal.TheVariants.{Limit, Identifier, Width}
 use Rattle.answer.specs.Outcome.{accepted, refused, input_limit, list_limit, after}
 use Rattle.answer.specs.Outcome.Laws.{limited_over, limited_in, limited_accepted}
 use Rattle.leb128.specs.Number.{read_signed, short_signed, is_neg}
-use Rattle.leb128.specs.declared.Signed.{Signed}
-use Rattle.leb128.specs.declared.Signed.TheVariants.{Value, Refused}
-use Rattle.leb128.specs.declared.Unsigned.TheVariants.{Value as UValue, Refused as URefused}
 use Rattle.records.specs.Columns.Laws.{from, map_from, zipped_from, zipped_length}
 use Rattle.records.specs.Identifier.{starts_with}
 use Rattle.records.specs.Reading.{one, none, counted}
@@ -22,53 +19,55 @@ use Rattle.leb128.proofs.RoundTrip.{signed_bytes}
 use Rattle.wrap.specs.Wrap.{residue, wrapped}
 use Rattle.wrap.specs.Wrap.Laws.{wrapped_range}
 use Rattle.apa1_table.specs.Table.{Row, row, start, identifier, second_of, first_of, step_at, plain, count_of, head_at, parse, decode, rows, entry_bytes, put_of, behind, head_of, build, encode}
+use Rattle.answer.specs.Outcome.{err_at}
+use Rattle.leb128.specs.Number.{Signed, ok_at}
 
 -- ---- a record
 module _ (strict : Bool) (s : List ℕ) (at : ℕ) (prev : Row) where
-  pub step_not : {why : Refusal} {p : ℕ} → read_signed strict 64 s at ≡ Refused why p → step_at strict s at prev ≡ none why p
+  pub step_not : {why : Refusal} {p : ℕ} → read_signed strict 64 s at ≡ err_at why p → step_at strict s at prev ≡ none why p
   unfolding step_at first_of
   step_not e = rw e
 
-  module _ {d : ℤ} {next : ℕ} (e : read_signed strict 64 s at ≡ Value d next) where
-    pub step_not_2 : {why : Refusal} {p : ℕ} → read_signed strict 64 s next ≡ Refused why p → step_at strict s at prev ≡ none why p
+  module _ {d : ℤ} {next : ℕ} (e : read_signed strict 64 s at ≡ ok_at d next) where
+    pub step_not_2 : {why : Refusal} {p : ℕ} → read_signed strict 64 s next ≡ err_at why p → step_at strict s at prev ≡ none why p
     unfolding step_at first_of second_of
     step_not_2 f = rw (e, f)
 
-    pub step_is : {a : ℤ} {past : ℕ} {x : Row} → read_signed strict 64 s next ≡ Value a past
+    pub step_is : {a : ℤ} {past : ℕ} {x : Row} → read_signed strict 64 s next ≡ ok_at a past
         → x ≡ row (residue 64 (pos prev.offset +ℤ d)) (wrapped 64 (prev.addend +ℤ a)) → step_at strict s at prev ≡ one x past x
     unfolding step_at first_of second_of
     step_is f g = rw (e, f, g)
 
 -- ---- the identifier and the count
 module _ (strict : Bool) (s : List ℕ) where
-  pub head_other : starts_with identifier s ≡ false → head_at strict s ≡ URefused Identifier 0
+  pub head_other : starts_with identifier s ≡ false → head_at strict s ≡ err_at Identifier 0
   unfolding head_at
   head_other e = rw e
 
   module _ (e : starts_with identifier s ≡ true) where
-    pub head_not : {why : Refusal} {p : ℕ} → read_signed false 64 s (length identifier) ≡ Refused why p → head_at strict s ≡ URefused why p
+    pub head_not : {why : Refusal} {p : ℕ} → read_signed false 64 s (length identifier) ≡ err_at why p → head_at strict s ≡ err_at why p
     unfolding head_at count_of
     head_not f = rw (e, f)
 
-    pub head_is : {z : ℤ} {first : ℕ} → read_signed false 64 s (length identifier) ≡ Value z first → head_at strict s ≡ count_of (Value z first) (read_signed strict 64 s (length identifier))
+    pub head_is : {z : ℤ} {first : ℕ} → read_signed false 64 s (length identifier) ≡ ok_at z first → head_at strict s ≡ count_of (ok_at z first) (read_signed strict 64 s (length identifier))
     unfolding head_at
     head_is f = rw (e, f)
 
-pub count_negative : (z : ℤ) (first : ℕ) (u : Signed) → is_neg z ≡ true → count_of (Value z first) u ≡ URefused Width (length identifier)
+pub count_negative : (z : ℤ) (first : ℕ) (u : Signed) → is_neg z ≡ true → count_of (ok_at z first) u ≡ err_at Width (length identifier)
 unfolding count_of
 count_negative (pos n) first u e = let o : ◌≡◌ {A = ℕ} 0 1 = cc in absurd (omega arith)
 count_negative (negsuc n) first u e = refl
 
-pub count_other : (z : ℤ) (first : ℕ) (u : Signed) → is_neg z ≡ false → count_of (Value z first) u ≡ plain u
+pub count_other : (z : ℤ) (first : ℕ) (u : Signed) → is_neg z ≡ false → count_of (ok_at z first) u ≡ plain u
 unfolding count_of
 count_other (pos n) first u e = refl
 count_other (negsuc n) first u e = let o : ◌≡◌ {A = ℕ} 0 1 = cc in absurd (omega arith)
 
-pub plain_is : (z : ℤ) (first : ℕ) → plain (Value z first) ≡ UValue (mag z) first
+pub plain_is : (z : ℤ) (first : ℕ) → plain (ok_at z first) ≡ ok_at (mag z) first
 unfolding plain
 plain_is z first = refl
 
-pub plain_not : {u : Signed} {why : Refusal} {p : ℕ} → u ≡ Refused why p → plain u ≡ URefused why p
+pub plain_not : {u : Signed} {why : Refusal} {p : ℕ} → u ≡ err_at why p → plain u ≡ err_at why p
 unfolding plain
 plain_not e = rw e
 
@@ -91,7 +90,7 @@ module _ (strict : Bool) (s : List ℕ) where
   decode_accepted e = limited_accepted input_limit (length s) (parse strict s) e
 
   -- a negative count is refusal 5 at its first byte
-  pub decode_negative : {n next : ℕ} → length s ≤ input_limit → starts_with identifier s ≡ true → read_signed false 64 s (length identifier) ≡ Value (negsuc n) next
+  pub decode_negative : {n next : ℕ} → length s ≤ input_limit → starts_with identifier s ≡ true → read_signed false 64 s (length identifier) ≡ ok_at (negsuc n) next
       → decode strict s ≡ refused Width (length identifier)
   decode_negative {n} {next} h i e =
       decode_in h ∙ parse_is ∙ counted_not (step_at strict s) (length s) start (head_is strict s i e ∙ count_negative (negsuc n) next _ refl)

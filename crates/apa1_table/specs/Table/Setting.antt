@@ -11,46 +11,46 @@ use Rattle.answer.specs.Said.{Said}
 use Rattle.answer.specs.Unless.{Unless, same, unless_then, unless_cond, unless_accepted}
 use Rattle.leb128.specs.Number.{read_signed}
 use Rattle.leb128.specs.Longer.{LongerSigned}
-use Rattle.leb128.specs.declared.Signed.{Signed}
-use Rattle.leb128.specs.declared.Signed.TheVariants.{Value, Refused}
-use Rattle.leb128.specs.declared.Unsigned.TheVariants.{Refused as URefused}
 use Rattle.leb128.proofs.Setting.{unless_signed}
 use Rattle.records.specs.Identifier.{starts_with}
 use Rattle.records.specs.Reading.{none}
 use Rattle.records.proofs.Unless.{unless_counted}
 use Rattle.apa1_table.specs.Table.{Row, start, identifier, second_of, first_of, step_at, plain, count_of, head_at, parse, decode}
+use Rattle.std.specs.Prelude.{Ok, Err}
+use Rattle.answer.specs.Outcome.{err_at}
+use Rattle.leb128.specs.Number.{Signed}
 
 -- a number longer than its shortest form is refused, at its first byte
 abbrev pub Spelled : List ℕ → Said
 Spelled s why p = (why ≡ Padded) × LongerSigned 64 s p
 
 module _ (strict : Bool) (s : List ℕ) where
-  number : (strict : Bool) (at : ℕ) → Unless Refused (Spelled s) (read_signed strict 64 s at) (read_signed false 64 s at)
+  number : (strict : Bool) (at : ℕ) → Unless err_at (Spelled s) (read_signed strict 64 s at) (read_signed false 64 s at)
   number strict at = unless_signed (Spelled s) strict 64 s at (λ h. (refl, h))
 
   second : (prev : Row) (u : Signed) → Unless none (Spelled s) (first_of strict s prev u) (first_of false s prev u)
   unfolding first_of second_of
-  second prev (Value d next) =
-      unless_then Refused none (Spelled s) (second_of prev d) (second_of prev d) (λ why p. refl) (λ u. same refl) (read_signed strict 64 s next) (read_signed false 64 s next) (number strict next)
-  second prev (Refused why p) = same refl
+  second prev (Ok (d , next)) =
+      unless_then err_at none (Spelled s) (second_of prev d) (second_of prev d) (λ why p. refl) (λ u. same refl) (read_signed strict 64 s next) (read_signed false 64 s next) (number strict next)
+  second prev (Err e) = same refl
 
   step : (at : ℕ) (prev : Row) → Unless none (Spelled s) (step_at strict s at prev) (step_at false s at prev)
   unfolding step_at first_of
   step at prev =
-      unless_then Refused none (Spelled s) (first_of strict s prev) (first_of false s prev) (λ why p. refl) (second prev) (read_signed strict 64 s at) (read_signed false 64 s at) (number strict at)
+      unless_then err_at none (Spelled s) (first_of strict s prev) (first_of false s prev) (λ why p. refl) (second prev) (read_signed strict 64 s at) (read_signed false 64 s at) (number strict at)
 
-  count : (u v w : Signed) → Unless Refused (Spelled s) v w → Unless URefused (Spelled s) (count_of u v) (count_of u w)
+  count : (u v w : Signed) → Unless err_at (Spelled s) v w → Unless err_at (Spelled s) (count_of u v) (count_of u w)
   unfolding count_of plain
-  count (Value (pos n) first) v w h = unless_then Refused URefused (Spelled s) plain plain (λ why p. refl) (λ u. same refl) v w h
-  count (Value (negsuc n) first) v w h = same refl
-  count (Refused why p) v w h = same refl
+  count (Ok ((pos n) , first)) v w h = unless_then err_at err_at (Spelled s) plain plain (λ why p. refl) (λ u. same refl) v w h
+  count (Ok ((negsuc n) , first)) v w h = same refl
+  count (Err e) v w h = same refl
 
-  head : Unless URefused (Spelled s) (head_at strict s) (head_at false s)
+  head : Unless err_at (Spelled s) (head_at strict s) (head_at false s)
   unfolding head_at
   head =
       let at = length identifier in
-      unless_cond URefused (Spelled s) (starts_with identifier s) (count_of (read_signed false 64 s at) _) (count_of (read_signed false 64 s at) _)
-      (URefused Identifier 0) (count (read_signed false 64 s at) _ _ (number _ at))
+      unless_cond err_at (Spelled s) (starts_with identifier s) (count_of (read_signed false 64 s at) _) (count_of (read_signed false 64 s at) _)
+      (err_at Identifier 0) (count (read_signed false 64 s at) _ _ (number _ at))
 
   pub decode_unless : Unless refused (Spelled s) (decode strict s) (decode false s)
   unfolding decode parse

@@ -3,16 +3,16 @@
 use Rattle.std.specs.Prelude.{ℕ, ◌≤◌, ◌≡◌, Bool, false, List, length}
 use Rattle.std.proofs.Common.{ap, sym, ◌∙◌, arith}
 use Rattle.answer.specs.declared.Answer.{Answer}
-use Rattle.answer.specs.declared.Found.{Found}
-use Rattle.answer.specs.declared.Found.TheVariants as found
 use Rattle.answer.specs.Outcome.{Outcome, success, found_of, itself, filled}
 use Rattle.answer.specs.Outcome.Laws.{Counted, found_count, gives_full}
 use Rattle.records.specs.Reading.{Fitting}
 use Rattle.apr1_table.specs.Table.{decode}
 use Rattle.apr1_table.specs.Table.Setting.{decode_lax}
 use Rattle.apr1_table.specs.Contract.{Reads}
+use Rattle.std.specs.Prelude.{Result, Ok}
+use Rattle.answer.specs.declared.Refused.{Refused}
 
-module _ (strict : Bool) (s : List ℕ) {f : Found} (is : f ≡ found_of (decode strict s)) {k : ℕ} (e : f ≡ found.Count k) where
+module _ (strict : Bool) (s : List ℕ) {f : Result ℕ Refused} (is : f ≡ found_of (decode strict s)) {k : ℕ} (e : f ≡ Ok k) where
   all : Counted (decode strict s) k
   all = found_count (decode strict s) (sym is ∙ e)
 
