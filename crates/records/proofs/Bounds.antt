@@ -20,7 +20,7 @@ Moves m long at (none why p) = Unit {0}
 
 -- a count that was read ends there too
 abbrev pub Ends : ℕ → Unsigned → Type 0
-Ends long (Ok (n , first)) = first ≤ long
+Ends long (Ok (n, first)) = first ≤ long
 Ends long (Err e) = Unit {0}
 
 -- a record that was read is so
@@ -44,7 +44,7 @@ module _ {S A : Type 0} (step : ℕ → S → Step S A) (end : ℕ) where
 
     pub counted_most : (st : S) (u : Unsigned) → Ends long u → OfList (λ (l : List A). m * length l ≤ long) (counted step end st u)
     unfolding counted
-    counted_most st (Ok (n , first)) h =
+    counted_most st (Ok (n, first)) h =
         list_map (λ (l : List A). first + m * length l ≤ long) (λ (l : List A). m * length l ≤ long) (records step end n first st) (λ l q. omega arith) (records_most n first st h)
     counted_most st (Err e) h = tt
 

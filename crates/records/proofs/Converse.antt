@@ -80,7 +80,7 @@ module _ {S A : Type 0} (step : ℕ → S → Step S A) (put : S → A → Put) 
     pub forth_counted : (u : Unsigned) → ((n first : ℕ) → u ≡ ok_at n first → s ≡ head_of n ++ drop first s) → counted step (length s) st u ≡ accepted l
         → after (head_of (length l)) (puts put next 0 st l) ≡ accepted s
     unfolding counted
-    forth_counted (Ok (n , first)) heads e =
+    forth_counted (Ok (n, first)) heads e =
         let (p, m) = forth n first 0 st good e in
         after_accepted (head_of (length l)) p ∙ ap accepted (ap (λ (k : ℕ). head_of k ++ drop first s) m ∙ sym (heads n first refl))
     forth_counted (Err x) heads e = absurd (accepted_refused e refl)

@@ -28,11 +28,11 @@ another T why p h e = absurd (h (ap number_of e))
 
 -- where something was read, nothing is said
 abbrev pub OfUnsigned : Said → Unsigned → Type 0
-OfUnsigned P (Ok (v , next)) = Unit {0}
+OfUnsigned P (Ok (v, next)) = Unit {0}
 OfUnsigned P (Err e) = P e.why e.place
 
 abbrev pub OfSigned : Said → Signed → Type 0
-OfSigned P (Ok (z , next)) = Unit {0}
+OfSigned P (Ok (z, next)) = Unit {0}
 OfSigned P (Err e) = P e.why e.place
 
 abbrev pub OfStep : {S A : Type 0} → Said → Step S A → Type 0
@@ -40,11 +40,11 @@ OfStep P (one x past st) = Unit {0}
 OfStep P (none why p) = P why p
 
 pub of_unsigned : (P : Said) (u : Unsigned) → ((why : Refusal) (p : ℕ) → u ≡ err_at why p → P why p) → OfUnsigned P u
-of_unsigned P (Ok (v , next)) h = tt
+of_unsigned P (Ok (v, next)) h = tt
 of_unsigned P (Err e) h = h e.why e.place refl
 
 pub of_signed : (P : Said) (u : Signed) → ((why : Refusal) (p : ℕ) → u ≡ err_at why p → P why p) → OfSigned P u
-of_signed P (Ok (z , next)) h = tt
+of_signed P (Ok (z, next)) h = tt
 of_signed P (Err e) h = h e.why e.place refl
 
 module _ {S A : Type 0} (P : Said) (step : ℕ → S → Step S A) (end : ℕ) (steps : (at : ℕ) (st : S) → OfStep P (step at st)) (over : (at : ℕ) → at < end → P Trailing at) where
@@ -63,7 +63,7 @@ module _ {S A : Type 0} (P : Said) (step : ℕ → S → Step S A) (end : ℕ) (
 
   pub of_counted : (st : S) (u : Unsigned) → OfUnsigned P u → OfOutcome P (counted step end st u)
   unfolding counted
-  of_counted st (Ok (n , first)) h = of_records n first st
+  of_counted st (Ok (n, first)) h = of_records n first st
   of_counted st (Err e) h = h
 
 -- records that are written are refused at an index of theirs

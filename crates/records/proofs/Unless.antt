@@ -33,5 +33,5 @@ module _ {S A : Type 0} (P : Said) (step step' : ℕ → S → Step S A) (end : 
   unless_counted st u u' h = unless_then err_at refused P (counted step end st) (counted step' end st) (λ why p. refl) go u u' h
     where
       go : (u : Unsigned) → Unless refused P (counted step end st u) (counted step' end st u)
-      go (Ok (n , first)) = unless_records n first st
+      go (Ok (n, first)) = unless_records n first st
       go (Err e) = same refl
