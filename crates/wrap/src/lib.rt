@@ -35,21 +35,6 @@ fn bits(x: i64) -> u64
     leb128::magnitude(x)
 }
 
-// A number of 63 bits as it is, and as the negative number whose bits are its complement's.
-fn positive(v: u64) -> i64
-    requires { v < 2 ^ 63 }
-    ensures { result ≡ pos v }
-{
-    v as i64
-}
-
-fn negative(v: u64) -> i64
-    requires { v < 2 ^ 63 }
-    ensures { result ≡ negsuc v }
-{
-    -1 - (v as i64)
-}
-
 // The signed number that the low bits of a word are.
 fn signed(width: u32, b: u64) -> i64
     requires { (IsWidth width) × (b < 2 ^ width) }
@@ -57,9 +42,9 @@ fn signed(width: u32, b: u64) -> i64
 {
     let half = power(width - 1);
     if b < half {
-        return positive(b);
+        return leb128::positive(b);
     }
-    negative(half - 1 - (b - half))
+    leb128::negative(half - 1 - (b - half))
 }
 
 // a + d at a width.

@@ -8,14 +8,14 @@ use mir.Facts.{to_z-of_z}
 use Rattle.leb128.proofs.Reading.{signed_pos, signed_neg}
 use Rattle.leb128.proofs.whole_signed.Goals as goal
 
-pub plus-requires : goal.plus-requires
-plus-requires c =
+pub positive-requires : goal.positive-requires
+positive-requires c =
     let h = c.in_ok-v.ensures in
     let l : c.args.bits ≤ 63 = omega arith in
     omega (arith, h, pow_mono l)
 
-pub minus-requires : goal.minus-requires
-minus-requires c =
+pub negative-requires : goal.negative-requires
+negative-requires c =
     let h = c.in_ok-w.ensures in
     let l : c.args.bits ≤ 63 = omega arith in
     omega (arith, h, pow_mono l)
@@ -23,8 +23,8 @@ minus-requires c =
 pub returns-then-d-lt64 : goal.returns-then-d-lt64
 returns-then-d-lt64 c =
     let h = c.in_ok-v.ensures in
-    rw (signed_pos c.args.low c.args.k c.args.d c.requires.0.low_lt (omega arith), to_z-of_z {w = w64} (record { sfits = c.plus.type_inv }))
-    (c.plus.ensures ∙ ap pos h.0, h.1)
+    rw (signed_pos c.args.low c.args.k c.args.d c.requires.0.low_lt (omega arith), to_z-of_z {w = w64} (record { sfits = c.positive.type_inv }))
+    (c.positive.ensures ∙ ap pos h.0, h.1)
 
 pub returns-in_err-v : goal.returns-in_err-v
 returns-in_err-v c =
@@ -35,8 +35,8 @@ pub returns : goal.returns
 returns c =
     let h = c.in_ok-w.ensures in
     let e = c.complement.ensures in
-    rw (signed_neg c.args.low c.args.k c.args.d c.requires.0.low_lt (omega arith) c.requires.0.digit, to_z-of_z {w = w64} (record { sfits = c.minus.type_inv }), ← e)
-    (c.minus.ensures ∙ ap negsuc h.0, h.1)
+    rw (signed_neg c.args.low c.args.k c.args.d c.requires.0.low_lt (omega arith) c.requires.0.digit, to_z-of_z {w = w64} (record { sfits = c.negative.type_inv }), ← e)
+    (c.negative.ensures ∙ ap negsuc h.0, h.1)
 
 pub returns-in_err-w : goal.returns-in_err-w
 returns-in_err-w c =

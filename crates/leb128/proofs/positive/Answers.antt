@@ -1,6 +1,6 @@
 use mir.Syntax.{w64}
 use mir.Facts.{to_z_pos}
-use Rattle.leb128.proofs.plus.Goals as goal
+use Rattle.leb128.proofs.positive.Goals as goal
 
 pub returns : goal.returns
 returns c = to_z_pos w64 c.requires

@@ -1,7 +1,7 @@
 use mir.Syntax.{w64}
 use mir.Facts.{to_z-of_z}
 use Rattle.leb128.proofs.Signs.{minus_is}
-use Rattle.leb128.proofs.minus.Goals as goal
+use Rattle.leb128.proofs.negative.Goals as goal
 
 pub overflow_sub-result : goal.overflow_sub-result
 overflow_sub-result c = rw (minus_is c.requires) (record { sfits = c.requires })
