@@ -21,22 +21,36 @@ const FILL64: u64 = 0xA5A5A5A5A5A5A5A5;
 
 const FILL_SIGNED: i64 = -0x5A5A5A5A5A5A5A5B;
 
-// The corpus's codes of the calls; every other is RELLEB's write.
-const RELR_READ: u8 = 0;
+// A call of the library.
+#[derive(Clone, Copy, PartialEq, Eq)]
+enum Call {
+    RelrRead,
+    RelrWrite,
+    RelrApply,
+    Apr1Read,
+    Apr1Write,
+    Apa1Read,
+    Apa1Write,
+    RellebRead,
+    RellebWrite,
+}
 
-const RELR_WRITE: u8 = 1;
-
-const RELR_APPLY: u8 = 2;
-
-const APR1_READ: u8 = 3;
-
-const APR1_WRITE: u8 = 4;
-
-const APA1_READ: u8 = 5;
-
-const APA1_WRITE: u8 = 6;
-
-const RELLEB_READ: u8 = 7;
+// By the corpus's code; every code that it does not have is RELLEB's write.
+impl From<u8> for Call {
+    fn from(code: u8) -> Call {
+        match code {
+            0 => Call::RelrRead,
+            1 => Call::RelrWrite,
+            2 => Call::RelrApply,
+            3 => Call::Apr1Read,
+            4 => Call::Apr1Write,
+            5 => Call::Apa1Read,
+            6 => Call::Apa1Write,
+            7 => Call::RellebRead,
+            _ => Call::RellebWrite,
+        }
+    }
+}
 
 // Runs the next case, and tells whether there was one.
 pub fn run<R: Read>(rt: &impl Print, reader: &mut R) -> io::Result<bool> {
@@ -46,16 +60,16 @@ pub fn run<R: Read>(rt: &impl Print, reader: &mut R) -> io::Result<bool> {
     }
     let settings = input::case_settings(reader)?;
     let mut space = [0u8; BYTES];
-    let n = input::capped(input::u32le(reader)?, BYTES);
-    let table: &mut [u8] = &mut space[..n];
+    let table = input::front(&mut space, input::u32le(reader)?);
     input::bytes(reader, table)?;
     let lengths = input::column_lengths(reader)?;
-    match code[0] {
-        RELR_READ | APR1_READ | APA1_READ | RELLEB_READ => read(
-            rt, reader, code[0], settings, table, lengths,
-        )?,
-        RELR_APPLY => apply(rt, reader, settings, table)?,
-        _ => write(rt, reader, code[0], settings, lengths)?,
+    let call = Call::from(code[0]);
+    match call {
+        Call::RelrRead | Call::Apr1Read | Call::Apa1Read | Call::RellebRead => {
+            read(rt, reader, call, settings, table, lengths)?
+        }
+        Call::RelrApply => apply(rt, reader, settings, table)?,
+        _ => write(rt, reader, call, settings, lengths)?,
     }
     Ok(true)
 }
@@ -64,7 +78,7 @@ pub fn run<R: Read>(rt: &impl Print, reader: &mut R) -> io::Result<bool> {
 fn read<R: Read>(
     rt: &impl Print,
     reader: &mut R,
-    code: u8,
+    call: Call,
     settings: Settings,
     table: &[u8],
     lengths: Lengths,
@@ -73,21 +87,17 @@ fn read<R: Read>(
     let mut type_space = [FILL32; ENTRIES];
     let mut symbol_space = [FILL32; ENTRIES];
     let mut addend_space = [FILL_SIGNED; ENTRIES];
-    let n_offsets = input::capped(lengths.offsets, OFFSETS);
-    let offsets: &mut [u64] = &mut offset_space[..n_offsets];
-    let n_types = input::capped(lengths.types, ENTRIES);
-    let types: &mut [u32] = &mut type_space[..n_types];
-    let n_symbols = input::capped(lengths.symbols, ENTRIES);
-    let symbols: &mut [u32] = &mut symbol_space[..n_symbols];
-    let n_addends = input::capped(lengths.addends, ENTRIES);
-    let addends: &mut [i64] = &mut addend_space[..n_addends];
+    let offsets = input::front(&mut offset_space, lengths.offsets);
+    let types = input::front(&mut type_space, lengths.types);
+    let symbols = input::front(&mut symbol_space, lengths.symbols);
+    let addends = input::front(&mut addend_space, lengths.addends);
     input::u32le(reader)?;
     let order = settings.order;
     let strict = settings.strict;
-    let a = match code {
-        RELR_READ => relr::read(settings.class, order, table, offsets),
-        APR1_READ => apr1::read(strict, table, offsets),
-        APA1_READ => apa1::read(strict, table, offsets, addends),
+    let a = match call {
+        Call::RelrRead => relr::read(settings.class, order, table, offsets),
+        Call::Apr1Read => apr1::read(strict, table, offsets),
+        Call::Apa1Read => apa1::read(strict, table, offsets, addends),
         _ => relleb::read(
             settings.class,
             strict,
@@ -98,16 +108,16 @@ fn read<R: Read>(
             addends,
         ),
     };
-    let h = output::column64(output::EMPTY, offsets);
-    let h = output::column32(h, types);
-    let h = output::column32(h, symbols);
-    output::line(rt, a, output::signed_column(h, addends))
+    let h = output::column(output::EMPTY, offsets);
+    let h = output::column(h, types);
+    let h = output::column(h, symbols);
+    output::line(rt, a, output::column(h, addends))
 }
 
 fn write<R: Read>(
     rt: &impl Print,
     reader: &mut R,
-    code: u8,
+    call: Call,
     settings: Settings,
     lengths: Lengths,
 ) -> io::Result<()> {
@@ -115,26 +125,21 @@ fn write<R: Read>(
     let mut type_list = [0u32; ENTRIES];
     let mut symbol_list = [0u32; ENTRIES];
     let mut addend_list = [0i64; ENTRIES];
-    let n_offsets = input::capped(lengths.offsets, OFFSETS);
-    let offsets: &mut [u64] = &mut offset_list[..n_offsets];
-    let n_types = input::capped(lengths.types, ENTRIES);
-    let types: &mut [u32] = &mut type_list[..n_types];
-    let n_symbols = input::capped(lengths.symbols, ENTRIES);
-    let symbols: &mut [u32] = &mut symbol_list[..n_symbols];
-    let n_addends = input::capped(lengths.addends, ENTRIES);
-    let addends: &mut [i64] = &mut addend_list[..n_addends];
-    input::column64(reader, offsets)?;
-    input::column32(reader, types)?;
-    input::column32(reader, symbols)?;
-    input::signed_column(reader, addends)?;
+    let offsets = input::front(&mut offset_list, lengths.offsets);
+    let types = input::front(&mut type_list, lengths.types);
+    let symbols = input::front(&mut symbol_list, lengths.symbols);
+    let addends = input::front(&mut addend_list, lengths.addends);
+    input::column(reader, offsets)?;
+    input::column(reader, types)?;
+    input::column(reader, symbols)?;
+    input::column(reader, addends)?;
     let mut space = [FILL8; BYTES];
-    let m = input::capped(input::u32le(reader)?, BYTES);
-    let table: &mut [u8] = &mut space[..m];
+    let table = input::front(&mut space, input::u32le(reader)?);
     let order = settings.order;
-    let a = match code {
-        RELR_WRITE => relr::write(settings.class, order, offsets, table),
-        APR1_WRITE => apr1::write(offsets, table),
-        APA1_WRITE => apa1::write(offsets, addends, table),
+    let a = match call {
+        Call::RelrWrite => relr::write(settings.class, order, offsets, table),
+        Call::Apr1Write => apr1::write(offsets, table),
+        Call::Apa1Write => apa1::write(offsets, addends, table),
         _ => relleb::write(settings.class, offsets, types, symbols, addends, table),
     };
     output::line(rt, a, output::bytes(output::EMPTY, table))
@@ -147,8 +152,7 @@ fn apply<R: Read>(
     table: &[u8],
 ) -> io::Result<()> {
     let mut space = [0u8; BYTES];
-    let m = input::capped(input::u32le(reader)?, BYTES);
-    let image: &mut [u8] = &mut space[..m];
+    let image = input::front(&mut space, input::u32le(reader)?);
     input::bytes(reader, image)?;
     let order = settings.order;
     let a = relr::apply(

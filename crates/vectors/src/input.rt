@@ -1,6 +1,7 @@
 // The corpus on standard input. Its numbers are little-endian.
-ghost use Rattle.std.specs.Prelude.{◌<◌, ◌≤◌};
+ghost use Rattle.std.specs.Prelude.{◌≤◌};
 
+use crate::entry::Entry;
 use std::io;
 use std::io::Read;
 use word::ByteOrder;
@@ -41,22 +42,16 @@ fn byte<R: Read>(reader: &mut R) -> io::Result<u8> {
     Ok(b[0])
 }
 
-fn widen(b: u8) -> u32
-    ensures { result < 256 }
-{
-    b as u32
-}
-
 pub fn u32le<R: Read>(reader: &mut R) -> io::Result<u32> {
     let mut b = [0u8; 4];
     bytes(reader, &mut b)?;
-    Ok(widen(b[0]) + widen(b[1]) * 256 + widen(b[2]) * 65536 + widen(b[3]) * 16777216)
+    Ok(u32::from_le_bytes(b))
 }
 
 pub fn u64le<R: Read>(reader: &mut R) -> io::Result<u64> {
-    let low = u32le(reader)? as u64;
-    let high = u32le(reader)? as u64;
-    Ok(low + high * 4294967296)
+    let mut b = [0u8; 8];
+    bytes(reader, &mut b)?;
+    Ok(u64::from_le_bytes(b))
 }
 
 pub fn case_settings<R: Read>(reader: &mut R) -> io::Result<Settings> {
@@ -66,11 +61,11 @@ pub fn case_settings<R: Read>(reader: &mut R) -> io::Result<Settings> {
     let base = u64le(reader)?;
     let start = u64le(reader)?;
     Ok(Settings {
-        class: class,
-        order: order,
-        strict: strict,
-        base: base,
-        start: start,
+        class,
+        order,
+        strict,
+        base,
+        start,
     })
 }
 
@@ -80,38 +75,30 @@ pub fn column_lengths<R: Read>(reader: &mut R) -> io::Result<Lengths> {
     let symbols = u32le(reader)?;
     let addends = u32le(reader)?;
     Ok(Lengths {
-        offsets: offsets,
-        types: types,
-        symbols: symbols,
-        addends: addends,
+        offsets,
+        types,
+        symbols,
+        addends,
     })
 }
 
 // A length that an array of this many entries holds. A case that is longer gets a wrong line.
-pub fn capped(n: u32, limit: usize) -> usize
+fn capped(n: u32, limit: usize) -> usize
     ensures { result ≤ limit }
 {
-    let n = n as usize;
-    if n <= limit { n } else { limit }
+    limit.min(n as usize)
 }
 
-pub fn column64<R: Read>(reader: &mut R, column: &mut [u64]) -> io::Result<()> {
-    for entry in column.iter_mut() {
-        *entry = u64le(reader)?;
-    }
-    Ok(())
+// The front of an array, so many entries of it.
+pub fn front<T>(space: &mut [T], n: u32) -> &mut [T] {
+    let len = capped(n, space.len());
+    &mut space[..len]
 }
 
-pub fn column32<R: Read>(reader: &mut R, column: &mut [u32]) -> io::Result<()> {
+// A column's entries, one after the other.
+pub fn column<T: Entry, R: Read>(reader: &mut R, column: &mut [T]) -> io::Result<()> {
     for entry in column.iter_mut() {
-        *entry = u32le(reader)?;
-    }
-    Ok(())
-}
-
-pub fn signed_column<R: Read>(reader: &mut R, column: &mut [i64]) -> io::Result<()> {
-    for entry in column.iter_mut() {
-        *entry = wrap::distance(64, u64le(reader)?, 0);
+        *entry = T::read(reader)?;
     }
     Ok(())
 }

@@ -3,6 +3,7 @@
 #![tactic(auto)]
 
 mod calls;
+mod entry;
 mod input;
 mod output;
 
