@@ -51,39 +51,38 @@ fn marks(set: u64) -> u64
     u64::count_ones(set) as u64
 }
 
-// A word that is passed, with the next one's *where*: an address, or a bitmap with how many offsets it stands for; or one that is not.
+// A word that is passed, with the next one's *where*: an address, or a bitmap with how many offsets it stands for.
 #[derive(Clone, Copy)]
 pub enum Stepped {
     One(u64),
     Many(u64, u64),
-    Stops,
 }
 
 // Passes the word x at a place if a bitmap anchored where it points would lie between the two ends, so that all it marks does.
-fn step(k: Class, low: u64, clear: u64, place: u64, x: u64) -> Stepped
+fn step(k: Class, low: u64, clear: u64, place: u64, x: u64) -> Option<Stepped>
     requires { (x < space_of k) × ((high : ℕ) × Fence k high clear) }
     ensures { (high : ℕ) → Fence k high clear → Steps k low high place x result }
 {
     if x % 2 == 0 {
         if within(low, clear, x) {
-            return Stepped::One(x + k.bytes() as u64);
+            return Some(Stepped::One(x + k.bytes() as u64));
         }
-        return Stepped::Stops;
+        return None;
     }
     if within(low, clear, place) {
-        return Stepped::Many(marks(x / 2), place + k.stride());
+        return Some(Stepped::Many(marks(x / 2), place + k.stride()));
     }
-    Stepped::Stops
+    None
 }
 
 // The same, but that an address, which marks one location, may lie nearer to the high end than a window.
-fn step_near(k: Class, low: u64, top: u64, clear: u64, place: u64, x: u64) -> Stepped
+fn step_near(k: Class, low: u64, top: u64, clear: u64, place: u64, x: u64) -> Option<Stepped>
     requires { (x < space_of k) × ((high : ℕ) × Top k high top × Fence k high clear) }
     ensures { (high : ℕ) → Top k high top → Fence k high clear → Steps k low high place x result }
 {
     if x % 2 == 0 {
         if within(low, top, x) {
-            return Stepped::One(x + k.bytes() as u64);
+            return Some(Stepped::One(x + k.bytes() as u64));
         }
     }
     step(k, low, clear, place, x)
@@ -122,15 +121,15 @@ pub fn pass(k: Class, s: &[u8], low: u64, high: u64, from: Passed) -> Passed
     while at < s.len() {
         let stepped = step_near(k, low, top, clear, place, word::load(k, s, at));
         match stepped {
-            Stepped::Stops => {
+            None => {
                 return Passed { at, place, count };
             }
-            Stepped::One(next) => {
+            Some(Stepped::One(next)) => {
                 count += 1;
                 place = next;
                 at += c;
             }
-            Stepped::Many(n, next) => {
+            Some(Stepped::Many(n, next)) => {
                 count += n;
                 place = next;
                 at += c;
