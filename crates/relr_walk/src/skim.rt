@@ -139,29 +139,23 @@ pub fn pass(k: Class, s: &[u8], low: u64, high: u64, from: Passed) -> Passed
     Passed { at, place, count }
 }
 
-// The same by flags for the class, and for each class, so that the compiler makes a loop for each.
-fn pass_by(wide: bool, big: bool, s: &[u8], low: u64, high: u64, from: Passed) -> Passed
-    requires { Skimmable (flagged wide big) s.now low high from }
-    ensures { Skims (flagged wide big) s.now low high from result }
+// The same for a class that two flags name, so that the compiler makes a loop for each.
+fn pass_by<const WIDE: bool, const BIG: bool>(s: &[u8], low: u64, high: u64, from: Passed) -> Passed
+    requires { Skimmable (flagged WIDE BIG) s.now low high from }
+    ensures { Skims (flagged WIDE BIG) s.now low high from result }
 {
-    pass(place::chosen(wide, big), s, low, high, from)
+    pass(place::chosen(WIDE, BIG), s, low, high, from)
 }
 
 pub fn pass_class(k: Class, s: &[u8], low: u64, high: u64, from: Passed) -> Passed
     requires { Skimmable k s.now low high from }
     ensures { Skims k s.now low high from result }
 {
-    let size = k.size;
-    let order = k.order;
-    match size {
-        Size::Four => match order {
-            ByteOrder::Little => pass_by(false, false, s, low, high, from),
-            ByteOrder::Big => pass_by(false, true, s, low, high, from),
-        },
-        Size::Eight => match order {
-            ByteOrder::Little => pass_by(true, false, s, low, high, from),
-            ByteOrder::Big => pass_by(true, true, s, low, high, from),
-        },
+    match (k.size, k.order) {
+        (Size::Four, ByteOrder::Little) => pass_by::<false, false>(s, low, high, from),
+        (Size::Four, ByteOrder::Big) => pass_by::<false, true>(s, low, high, from),
+        (Size::Eight, ByteOrder::Little) => pass_by::<true, false>(s, low, high, from),
+        (Size::Eight, ByteOrder::Big) => pass_by::<true, true>(s, low, high, from),
     }
 }
 
@@ -170,16 +164,10 @@ pub fn pass_space(k: Class, s: &[u8], high: u64, from: Passed) -> Passed
     requires { Skimmable k s.now 0 high from }
     ensures { Skims k s.now 0 high from result }
 {
-    let size = k.size;
-    let order = k.order;
-    match size {
-        Size::Four => match order {
-            ByteOrder::Little => pass_by(false, false, s, 0, high, from),
-            ByteOrder::Big => pass_by(false, true, s, 0, high, from),
-        },
-        Size::Eight => match order {
-            ByteOrder::Little => pass_by(true, false, s, 0, high, from),
-            ByteOrder::Big => pass_by(true, true, s, 0, high, from),
-        },
+    match (k.size, k.order) {
+        (Size::Four, ByteOrder::Little) => pass_by::<false, false>(s, 0, high, from),
+        (Size::Four, ByteOrder::Big) => pass_by::<false, true>(s, 0, high, from),
+        (Size::Eight, ByteOrder::Little) => pass_by::<true, false>(s, 0, high, from),
+        (Size::Eight, ByteOrder::Big) => pass_by::<true, true>(s, 0, high, from),
     }
 }
