@@ -236,15 +236,9 @@ module _ (k : Class) (s : List ℕ) (low high : ℕ) where
 pub ruleset finding = (find_long, find_part, find_begin, find_words, find_rest, find_all, rules)
 
 -- ---- the same between the ends of the space: r is its last offset, and an end past it holds no offset back
-module _ (k : Class) (r : ℕ) (h : r + bytes_of k ≡ space_of k) where
-  pub count_high : Fits w64 (r + 1)
-  count_high = record { fits = omega (arith, space_most k, bytes_least k) }
-
-  module _ (s : List ℕ) {f : Result ℕ Refused} where
-    pub count_all : f ≡ found_of (contained (between 0 (r + 1)) (decode k s)) → f ≡ found_of (decode k s)
-    count_all e =
-        let all : contained (between 0 (r + 1)) (decode k s) ≡ decode k s =
-        contained_space k s (between 0 (r + 1)) (λ x. true) (λ x l. rw (le-leb 0 x (omega arith)) (lt-ltb x (r + 1) (omega arith))) ∙ contained_every (decode k s) in
-        e ∙ ap found_of all
-
-pub ruleset counts = (count_high, count_all, find_long, find_part, find_begin, find_words, find_rest, find_all, rules)
+pub count_all : (k : Class) (r : ℕ) → r + bytes_of k ≡ space_of k → (s : List ℕ) {f : Result ℕ Refused}
+    → f ≡ found_of (contained (between 0 (r + 1)) (decode k s)) → f ≡ found_of (decode k s)
+count_all k r h s e =
+    let all : contained (between 0 (r + 1)) (decode k s) ≡ decode k s =
+    contained_space k s (between 0 (r + 1)) (λ x. true) (λ x l. rw (le-leb 0 x (omega arith)) (lt-ltb x (r + 1) (omega arith))) ∙ contained_every (decode k s) in
+    e ∙ ap found_of all

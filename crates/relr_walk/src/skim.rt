@@ -147,6 +147,8 @@ fn pass_by<const WIDE: bool, const BIG: bool>(s: &[u8], low: u64, high: u64, fro
     pass(place::chosen(WIDE, BIG), s, low, high, from)
 }
 
+// The same for any class.
+#[inline(always)]
 pub fn pass_class(k: Class, s: &[u8], low: u64, high: u64, from: Passed) -> Passed
     requires { Skimmable k s.now low high from }
     ensures { Skims k s.now low high from result }
@@ -156,18 +158,5 @@ pub fn pass_class(k: Class, s: &[u8], low: u64, high: u64, from: Passed) -> Pass
         (Size::Four, ByteOrder::Big) => pass_by::<false, true>(s, low, high, from),
         (Size::Eight, ByteOrder::Little) => pass_by::<true, false>(s, low, high, from),
         (Size::Eight, ByteOrder::Big) => pass_by::<true, true>(s, low, high, from),
-    }
-}
-
-// The same from the low end of the space on. (It is written out again so that the compiler knows that end.)
-pub fn pass_space(k: Class, s: &[u8], high: u64, from: Passed) -> Passed
-    requires { Skimmable k s.now 0 high from }
-    ensures { Skims k s.now 0 high from result }
-{
-    match (k.size, k.order) {
-        (Size::Four, ByteOrder::Little) => pass_by::<false, false>(s, 0, high, from),
-        (Size::Four, ByteOrder::Big) => pass_by::<false, true>(s, 0, high, from),
-        (Size::Eight, ByteOrder::Little) => pass_by::<true, false>(s, 0, high, from),
-        (Size::Eight, ByteOrder::Big) => pass_by::<true, true>(s, 0, high, from),
     }
 }
