@@ -31,7 +31,7 @@ pub extern "C" fn reloc_relr_read(
 ) -> Answer
     ensures { RelrReads class (order_of big) table.now offsets.old result offsets.new }
 {
-    relr::read(class, ByteOrder::of(big), table, offsets)
+    relr::read(class, ByteOrder::from(big), table, offsets)
 }
 
 #[unsafe(no_mangle)]
@@ -43,7 +43,7 @@ pub extern "C" fn reloc_relr_write(
 ) -> Answer
     ensures { RelrWrites class (order_of big) offsets.now table.old result table.new }
 {
-    relr::write(class, ByteOrder::of(big), offsets, table)
+    relr::write(class, ByteOrder::from(big), offsets, table)
 }
 
 #[unsafe(no_mangle)]
@@ -57,7 +57,7 @@ pub extern "C" fn reloc_relr_apply(
 ) -> Answer
     ensures { RelrApplies class (order_of big) table.now base start image.old result image.new }
 {
-    relr::apply(class, ByteOrder::of(big), table, base, start, image)
+    relr::apply(class, ByteOrder::from(big), table, base, start, image)
 }
 
 #[unsafe(no_mangle)]

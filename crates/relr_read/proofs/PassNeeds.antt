@@ -1,14 +1,17 @@
 -- The needs of the second pass of a read, stated as the code asks them.
 -- Assumes nothing.
-use Rattle.std.proofs.Common.{◌≡◌, ℕ, zero, suc, ◌+◌, ◌-◌, ◌*◌, ◌/◌, ◌%◌, ◌^◌, ◌<◌, ◌≤◌, List, [], ◌∷◌, ◌++◌, length, take, drop, set as stored, sym, refl, ap, ◌∙◌, subst, append_assoc, append-nil, arith, length-append, length-set, take-append-drop, length-take-le, drop-drop, take-suc-set, take_at, drop-set-lt, w64, Fits, rules}
+use Rattle.std.specs.Prelude.{Result, Ok}
+use Rattle.std.proofs.Common.{◌≡◌, ℕ, zero, suc, ◌+◌, ◌-◌, ◌*◌, ◌/◌, ◌%◌, ◌^◌, ◌<◌, ◌≤◌, List, [], ◌∷◌, ◌++◌, length, take, drop, set as stored, sym, refl, ap, ◌∙◌, subst, append_assoc, append-nil, arith, length-append, length-set, length-drop, take_all, take-append-drop, length-take-le, drop-drop, take-suc-set, take_at, drop-set-lt, w64, Fits, rules}
 use lib.Bits.{bit_and}
 use lib.Count.{count_trailing_zeros}
+use lib.Pow.{pow_mono, pow_pos}
+use borrow.Rule.Slice.PartMut.{put_mid}
+use Rattle.std.proofs.lemmas.List.{take_more_set}
 use lib.Seq.{sets, sets-eq, length-sets, take-set-le, drop-append-add}
 use borrow.Author.Rules.{scaled_Fits}
 use Rattle.answer.specs.Outcome.Laws.{sets_append, found_count, filled_self, gives_not, gives_short, gives_full}
 use Rattle.answer.specs.Written.{Written, written_long}
-use Rattle.answer.specs.declared.Found.{Found}
-use Rattle.answer.specs.declared.Found.TheVariants.{Count}
+use Rattle.answer.specs.declared.Refused.{Refused}
 use Rattle.answer.specs.Outcome.{found_of, filled, itself}
 use Rattle.word.specs.declared.Class.{Class}
 use Rattle.word.specs.Class.{bytes_of, window_of}
@@ -85,52 +88,58 @@ module _ {k : Class} {old : List ℕ} {at anchor set : ℕ} (m : Markable k old 
 
 pub ruleset markings = (filling_begin, filling_long, filling_in, filling_scaled, filling_next, zeros_fits, zeros_set, filling_end, zeros_fit, zeros_far, zeros_less, rules)
 
--- where all bits are set: x is the location at j
-pub record Running (k : Class) (old : List ℕ) (at anchor n : ℕ) (column : List ℕ) (x i j : ℕ) : Type 0 where
-  pub window : n ≡ window_of k
-  pub within : j ≤ n
+-- where all bits are set: the first j are passed, and each is marked
+full_left : (k : Class) (anchor j : ℕ) → j ≤ window_of k → (p : List ℕ) × Left k anchor (full k) (2 ^ window_of k - 2 ^ j) p × (length p ≡ j)
+full_left k anchor zero h = ([], left_begin k anchor (full k) (omega (arith, pow_pos (window_of k))), refl)
+full_left k anchor (suc j) h =
+    let (p, l, e) = full_left k anchor j (omega arith) in
+    let n : j + 1 ≡ suc j = omega arith in
+    (p ++ (anchor + j * bytes_of k) ∷ [], rw n at (left_next l (next_full k anchor j (omega arith))), length-append p ((anchor + j * bytes_of k) ∷ []) ∙ rw (e, n))
+
+full_long : (k : Class) (anchor : ℕ) → length (marks_of k (full k) anchor) ≡ window_of k
+full_long k anchor = let (p, l, e) = full_left k anchor (window_of k) (omega arith) in ap length (left_end l (full_none k (window_of k) refl)) ∙ e
+
+-- x is the location at j, and the part of the column for the bitmap holds those before it
+pub record Running (k : Class) (anchor : ℕ) (part : List ℕ) (x j : ℕ) : Type 0 where
+  pub long : length part ≡ window_of k
   pub here : x ≡ (anchor + j * bytes_of k) % 2 ^ 64
-  pub filling : Filling k old at anchor (full k) column (2 ^ window_of k - 2 ^ j) i
+  pub left : Left k anchor (full k) (2 ^ window_of k - 2 ^ j) (take j part)
 
-pub running_low : {k : Class} {old : List ℕ} {at anchor : ℕ} → Markable k old at anchor (full k) → length old * 8 < 2 ^ 63 → at < 2 ^ 63
-running_low m h = omega (arith, m.room)
+module _ {k : Class} {old : List ℕ} {at anchor : ℕ} (m : Markable k old at anchor (full k)) where
+  pub running_low : length old * 8 < 2 ^ 63 → at < 2 ^ 63
+  running_low h = omega (arith, m.room)
 
-module _ {k : Class} {old : List ℕ} {at anchor n : ℕ} (m : Markable k old at anchor (full k)) where
-  pub running_begin : n ≡ window_of k → anchor < 2 ^ 64 → Running k old at anchor n old anchor at 0
-  running_begin ne h = record { window = ne; within = omega arith; here = omega arith; filling = filling_begin m }
+  module _ {w : ℕ} (we : w ≡ window_of k) where
+    pub running_room : at + w ≤ length old
+    running_room = omega (arith, m.room, full_long k anchor)
 
-  module _ {column : List ℕ} {x i j : ℕ} (g : Running k old at anchor n column x i j) where
-    pub running_long : length column ≡ length old
-    running_long = filling_long m g.filling
+    part_long : length (take (at + w - at) (drop at old)) ≡ w
+    part_long = length-take-le (at + w - at) (drop at old) (simp length-drop (omega (arith, running_room))) ∙ omega arith
 
-    pub running_end : n ≤ j → Written old column at i (marks_of k (full k) anchor)
-    running_end l = filling_end m g.filling (full_none k j (omega (arith, g.within, g.window)))
+    pub running_begin : anchor < 2 ^ 64 → Running k anchor (take (at + w - at) (drop at old)) anchor 0
+    running_begin h = record { long = part_long ∙ we; here = omega arith; left = left_begin k anchor (full k) m.in_window }
 
-    module _ (l : j < n) where
-      step : Next k anchor (2 ^ window_of k - 2 ^ j) j (2 ^ window_of k - 2 ^ (j + 1))
-      step = next_full k anchor j (omega (arith, g.window))
-
-      pub running_in : i < length column
-      running_in = next_in m g.filling step
-
-      pub running_scaled : length old * 8 < 2 ^ 63 → Fits w64 (i * 8)
-      running_scaled = next_scaled m g.filling step
-
-      pub running_next : length old < 2 ^ 64 → Fits w64 (i + 1)
-      running_next = next_more m g.filling step
-
-      pub running_set : {c y : ℕ} → c ≡ bytes_of k → y ≡ (x + c) % 2 ^ 64 → Running k old at anchor n (stored column i x) y (i + 1) (j + 1)
-      running_set {c} {y} ce ye =
-          let e : x ≡ anchor + j * bytes_of k = omega (arith, g.here, (left_fits g.filling.left step m.fits).fits) in
+    module _ {part : List ℕ} {x j : ℕ} (g : Running k anchor part x j) where
+      pub running_set : j < length (take (at + w - at) (drop at old)) → {c y : ℕ} → c ≡ bytes_of k → y ≡ (x + c) % 2 ^ 64 → Running k anchor (stored part j x) y (j + 1)
+      running_set l {c} {y} ce ye =
+          let step = next_full k anchor j (omega (arith, part_long)) in
+          let e : x ≡ anchor + j * bytes_of k = omega (arith, g.here, (left_fits g.left step m.fits).fits) in
           let on : anchor + j * bytes_of k + bytes_of k ≡ anchor + (j + 1) * bytes_of k = omega arith in
+          let is : take (j + 1) (stored part j x) ≡ take j part ++ (anchor + j * bytes_of k) ∷ [] = rw e (take_more_set part j _ (omega (arith, g.long, part_long))) in
+          record { long = length-set part j x ∙ g.long; here = ye ∙ rw (ce, e, on); left = rw is (left_next g.left step) }
+
+      pub running_end : length (take (at + w - at) (drop at old)) ≤ j → Written old (put_mid at (at + w - at) old part) at (at + w) (marks_of k (full k) anchor)
+      running_end l =
+          let h : window_of k ≤ j = omega (arith, part_long) in
+          let z : 2 ^ window_of k - 2 ^ j ≡ 0 = omega (arith, pow_mono h) in
+          let is : marks_of k (full k) anchor ≡ part = left_end g.left z ∙ take_all j part (omega (arith, g.long)) in
+          let n : at + w - at ≡ length part = omega (arith, g.long) in
           record {
-            window = g.window;
-            within = omega arith;
-            here = ye ∙ rw (ce, e, on);
-            filling = rw e (next_set m g.filling step);
+            list = rw (is, n, sets-eq part old at (omega (arith, running_room, g.long)), drop-drop, append_assoc);
+            place = rw is (omega (arith, g.long));
           }
 
-pub ruleset runnings = (running_begin, running_low, running_long, running_end, running_in, running_scaled, running_next, running_set, run_bit, run_less, rules)
+pub ruleset runnings = (running_low, running_room, running_begin, running_set, running_end, rules)
 
 -- location by location
 pub record Spreading (k : Class) (n : ℕ) (old : List ℕ) (at anchor set : ℕ) (column : List ℕ) (i j : ℕ) : Type 0 where
@@ -372,7 +381,7 @@ module _ {k j : Class} (e : k ≡ j) (s : List ℕ) (n : ℕ) (old : List ℕ) w
 pub ruleset classes = (class_is, fillable_to, fillable_from, filled_to, filled_from, rules)
 
 -- ---- a read for a class: f is what the first pass found
-module _ (k : Class) (s old : List ℕ) {f : Found} (is : f ≡ found_of (decode k s)) {n : ℕ} (e : f ≡ Count n) (fits : n ≤ length old) where
+module _ (k : Class) (s old : List ℕ) {f : Result ℕ Refused} (is : f ≡ found_of (decode k s)) {n : ℕ} (e : f ≡ Ok n) (fits : n ≤ length old) where
   pub read_fillable : Fillable k s n old
   read_fillable =
       let c = found_count (decode k s) (sym is ∙ e) in

@@ -7,7 +7,7 @@ ghost use Rattle.relr_table.specs.Table.{decode};
 ghost use Rattle.relr_table.specs.Inner.{flagged, marks_of, full};
 ghost use Rattle.relr_read.specs.Inner.{Markable, Bounded, Ample, Laid, Fillable, Filled};
 
-use answer::{Answer, Found};
+use answer::Answer;
 use relr_table::place;
 use word::{ByteOrder, Class, Size};
 
@@ -32,17 +32,13 @@ fn fill_run(k: Class, column: &mut [u64], at: usize, anchor: u64) -> usize
     requires { Markable k column.old at anchor (full k) }
     ensures { Written column.old column.new at result (marks_of k (full k) anchor) }
 {
-    let n = k.window() as u64;
+    let next = at + k.window() as usize;
     let mut x = anchor;
-    let mut i = at;
-    let mut j: u64 = 0;
-    while j < n {
-        column[i] = x;
+    for location in &mut column[at..next] {
+        *location = x;
         x = std::num::wrapping_add_u64(x, place::step(k, at));
-        i += 1;
-        j += 1;
     }
-    i
+    next
 }
 
 // The same in a column that is filled to the index `count` in all, where a whole window lies before that. Each location is put at the index, which
@@ -58,13 +54,10 @@ fn fill_window(
     requires { Ample k count column.old at anchor set }
     ensures { Laid count column.old column.new at result (marks_of k set anchor) }
 {
-    let window = k.window() as u64;
     let mut i = at;
-    let mut j: u64 = 0;
-    while j < window {
+    for j in 0..k.window() as u64 {
         column[i] = std::num::wrapping_add_u64(anchor, j * (k.bytes() as u64));
         i += ((set >> j) % 2) as usize;
-        j += 1;
     }
     i
 }
@@ -118,29 +111,24 @@ fn fill(k: Class, s: &[u8], count: usize, column: &mut [u64])
     }
 }
 
-// The same by flags for the class and for each class, so that the compiler makes a loop for each.
-fn fill_by(wide: bool, big: bool, s: &[u8], count: usize, column: &mut [u64])
-    requires { Fillable (flagged wide big) s.now count column.old }
-    ensures { Filled (flagged wide big) s.now column.old column.new }
+// The same for a class that two flags name, so that the compiler makes a loop for each.
+fn fill_by<const WIDE: bool, const BIG: bool>(s: &[u8], count: usize, column: &mut [u64])
+    requires { Fillable (flagged WIDE BIG) s.now count column.old }
+    ensures { Filled (flagged WIDE BIG) s.now column.old column.new }
 {
-    fill(place::chosen(wide, big), s, count, column);
+    fill(place::chosen(WIDE, BIG), s, count, column);
 }
 
+// The same for any class.
 fn fill_class(k: Class, s: &[u8], count: usize, column: &mut [u64])
     requires { Fillable k s.now count column.old }
     ensures { Filled k s.now column.old column.new }
 {
-    let size = k.size;
-    let order = k.order;
-    match order {
-        ByteOrder::Little => match size {
-            Size::Four => fill_by(false, false, s, count, column),
-            Size::Eight => fill_by(true, false, s, count, column),
-        },
-        ByteOrder::Big => match size {
-            Size::Four => fill_by(false, true, s, count, column),
-            Size::Eight => fill_by(true, true, s, count, column),
-        },
+    match (k.size, k.order) {
+        (Size::Four, ByteOrder::Little) => fill_by::<false, false>(s, count, column),
+        (Size::Four, ByteOrder::Big) => fill_by::<false, true>(s, count, column),
+        (Size::Eight, ByteOrder::Little) => fill_by::<true, false>(s, count, column),
+        (Size::Eight, ByteOrder::Big) => fill_by::<true, true>(s, count, column),
     }
 }
 
@@ -148,10 +136,9 @@ fn fill_class(k: Class, s: &[u8], count: usize, column: &mut [u64])
 pub fn read_class(k: Class, table: &[u8], offsets: &mut [u64]) -> Answer
     ensures { Gives (decode k table.now) offsets.old result offsets.new }
 {
-    let found = relr_walk::count(k, table);
-    match found {
-        Found::Refused(why, at) => answer::refuse(why, at),
-        Found::Count(n) => {
+    match relr_walk::count(k, table) {
+        Err(refused) => Answer::from(refused),
+        Ok(n) => {
             if (offsets.len() as u64) < n {
                 return answer::short_of(n);
             }

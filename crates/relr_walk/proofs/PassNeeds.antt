@@ -14,11 +14,10 @@ use borrow.Author.Rules.{rules}
 use borrow.Author.Tests.{lt-ltb, le-ltb, le-leb}
 use Rattle.answer.specs.declared.Refusal.{Refusal}
 use Rattle.answer.specs.declared.Refusal.TheVariants.{Limit, Missing, Space, Outside}
-use Rattle.answer.specs.declared.Found.{Found}
-use Rattle.answer.specs.declared.Found.TheVariants.{Count}
-use Rattle.answer.specs.declared.Found.TheVariants as found
+use Rattle.std.specs.Prelude.{Result, Ok, Err}
+use Rattle.answer.specs.declared.Refused.{Refused}
 use Rattle.answer.proofs.Limits.{input_most}
-use Rattle.answer.specs.Outcome.{Outcome, found_of, input_limit}
+use Rattle.answer.specs.Outcome.{Outcome, found_of, input_limit, refused_at}
 use Rattle.answer.specs.Outcome.Laws.{after_refused, found_refused}
 use Rattle.word.specs.declared.Class.{Class}
 use Rattle.word.specs.Class.{bytes_of, window_of}
@@ -28,7 +27,7 @@ use Rattle.relr_table.specs.Words.{fit}
 use Rattle.relr_table.specs.Table.{space_of, decode, contained}
 use Rattle.relr_table.specs.Place.{Place, Nowhere}
 use Rattle.relr_table.specs.declared.place.Opened.{Opened}
-use Rattle.relr_table.specs.declared.place.Opened.TheVariants.{Address, Marks, Refused}
+use Rattle.relr_table.specs.declared.place.Opened.TheVariants.{Address, Marks}
 use Rattle.relr_table.specs.Inner.{marks_of, OpensAt, Whole, words_read, between, Standing}
 use Rattle.relr_walk.specs.declared.skim.Passed.{Passed}
 use Rattle.relr_walk.specs.Inner.{grow, surveyed, none, Leads, Scanned, ScannedTo, Skimmable, Skims, origin, Begun}
@@ -53,10 +52,10 @@ module _ (first count : ℕ) {b : Bool} where
   grow_before e l = rw (e, le-ltb count first l)
 
 module _ {first count : ℕ} where
-  pub survey_all : count ≤ first → Count count ≡ surveyed count first
+  pub survey_all : count ≤ first → Ok count ≡ surveyed count first
   survey_all h = rw (le-ltb first count h)
 
-  pub survey_not : first < count → found.Refused Outside first ≡ surveyed count first
+  pub survey_not : first < count → Err (refused_at Outside first) ≡ surveyed count first
   survey_not h = rw (lt-ltb first count h)
 
 pub ruleset counting = (grow_in, grow_here, grow_before, survey_all, survey_not, rules)
@@ -100,40 +99,40 @@ module _ {k : Class} {s : List ℕ} {low high first : ℕ} {from q : Passed} (h�
   pub scan_less : {c : ℕ} → q.at < length s → c ≡ bytes_of k → length s - (q.at + c) < length s - from.at
   scan_less l ce = omega (arith, z.ahead, bytes_least k)
 
-  pub scan_end : Whole k s → {r : Found} → r ≡ surveyed q.count first → length s ≤ q.at → r ≡ found_of (contained (between low high) (words_read k s))
+  pub scan_end : Whole k s → {r : Result ℕ Refused} → r ≡ surveyed q.count first → length s ≤ q.at → r ≡ found_of (contained (between low high) (words_read k s))
   scan_end w e l = e ∙ leads_end h.counted (scan_small w) h.lead (standing_end h.standing l)
 
-  module _ {x : ℕ} {r : Opened} (l : q.at < length s) (e : x ≡ word_at k s q.at) (o : OpensAt k q.place x r) where
-    pub scan_refused : {why : Refusal} → r ≡ Refused why → found.Refused why q.at ≡ found_of (contained (between low high) (words_read k s))
+  module _ {x : ℕ} {r : Result Opened Refusal} (l : q.at < length s) (e : x ≡ word_at k s q.at) (o : OpensAt k q.place x r) where
+    pub scan_refused : {why : Refusal} → r ≡ Err why → Err (refused_at why q.at) ≡ found_of (contained (between low high) (words_read k s))
     scan_refused f = sym (found_refused (contained_refused (between low high) (word_refused h.standing l e o f)))
 
-    module _ {y : ℕ} {next : Place} (f : r ≡ Address y next) where
+    module _ {t : Opened} (g : r ≡ Ok t) {y : ℕ} {next : Place} (f : t ≡ Address y next) where
       pub scan_count : Whole k s → Fits w64 (q.count + 1)
       scan_count w = record { fits = omega (arith, scan_small w) }
 
       pub scan_one : {c x' : ℕ} {b : Bool} → Whole k s → c ≡ bytes_of k → b ≡ between low high y → x' ≡ grow first q.count b
           → Scanned k s low high (q.at + c) next (q.count + 1) x'
-      scan_one {c} w ce be g =
-          let a = word_one h.standing l e o f in
+      scan_one {c} w ce be gr =
+          let a = word_one h.standing l e o (g ∙ ap Ok f) in
           let m = one_mark k y in
           let st = word_done a (rw m (fit_one (bytes_of k) (space_of k) y a.in_space)) in
           record {
             list = h.list ++ y ∷ [];
             standing = rw (ce, ← m) st;
             counted = omega (arith, h.counted, length-append h.list (y ∷ []));
-            lead = rw (g, be) (leads_more h.counted y (scan_small w) h.lead);
+            lead = rw (gr, be) (leads_more h.counted y (scan_small w) h.lead);
             few = omega (arith, h.few, bytes_least k);
           }
 
-    module _ {anchor set : ℕ} {next : Place} (f : r ≡ Marks anchor set next) where
+    module _ {t : Opened} (g : r ≡ Ok t) {anchor set : ℕ} {next : Place} (f : t ≡ Marks anchor set next) where
       pub scan_reach : (last : ℕ) → last + bytes_of k ≡ space_of k → anchor ≤ last
-      scan_reach last g = omega (arith, (word_marks h.standing l e o f).in_space)
+      scan_reach last lg = omega (arith, (word_marks h.standing l e o (g ∙ ap Ok f)).in_space)
 
-pub walk_begin : {k : Class} {s : List ℕ} {low high at count first x : ℕ} {p : Place} {r : Opened} {anchor set : ℕ} {next : Place} → Scanned k s low high at p count first
-    → at < length s → x ≡ word_at k s at → OpensAt k p x r → r ≡ Marks anchor set next → Walking k s low high at count first anchor set next set
+pub walk_begin : {k : Class} {s : List ℕ} {low high at count first x : ℕ} {p : Place} {r : Result Opened Refusal} {t : Opened} {anchor set : ℕ} {next : Place} → Scanned k s low high at p count first
+    → at < length s → x ≡ word_at k s at → OpensAt k p x r → r ≡ Ok t → t ≡ Marks anchor set next → Walking k s low high at count first anchor set next set
 unfolding fit
-walk_begin {k} {anchor = anchor} {set = set} h l e o f =
-    let w = word_marks h.standing l e o f in
+walk_begin {k} {anchor = anchor} {set = set} h l e o g f =
+    let w = word_marks h.standing l e o (g ∙ ap Ok f) in
     record {
       list = h.list;
       passed = [];
@@ -162,7 +161,7 @@ module _ {k : Class} {s : List ℕ} {low high at count first anchor set : ℕ} {
     walk_count w l = record { fits = omega (arith, walk_small w l) }
 
     module _ {c : ℕ} (last : ℕ) (g : last + bytes_of k ≡ space_of k) (ce : c ≡ bytes_of k) where
-      pub walk_far : last - anchor < count_trailing_zeros 64 bits * c → found.Refused Space at ≡ found_of (contained (between low high) (words_read k s))
+      pub walk_far : last - anchor < count_trailing_zeros 64 bits * c → Err (refused_at Space at) ≡ found_of (contained (between low high) (words_read k s))
       walk_far l =
           let a : space_of k < x + bytes_of k = omega (arith, ap (λ (y : ℕ). count_trailing_zeros 64 bits * y) ce) in
           let q = marks_of k (bit_and bits (bits - 1)) anchor in
@@ -206,10 +205,10 @@ pub ruleset scans = (scan_from, scan_whole, skim_allowed, scan_fetch, scan_less,
 
 -- ---- the first pass over any bytes
 module _ (k : Class) (s : List ℕ) (low high : ℕ) where
-  pub find_long : input_limit < length s → found.Refused Limit 0 ≡ found_of (contained (between low high) (decode k s))
+  pub find_long : input_limit < length s → Err (refused_at Limit 0) ≡ found_of (contained (between low high) (decode k s))
   find_long h = sym (found_refused (contained_refused (between low high) (decode_long k s h)))
 
-  pub find_part : {r : ℕ} → r ≡ length s % bytes_of k → 0 < r → length s ≤ input_limit → found.Refused Missing (length s) ≡ found_of (contained (between low high) (decode k s))
+  pub find_part : {r : ℕ} → r ≡ length s % bytes_of k → 0 < r → length s ≤ input_limit → Err (refused_at Missing (length s)) ≡ found_of (contained (between low high) (decode k s))
   find_part e g h = sym (found_refused (contained_refused (between low high) (decode_part k s h λ z. omega arith)))
 
   module _ {r : ℕ} (e : r ≡ length s % bytes_of k) (z : r ≤ 0) (h : length s ≤ input_limit) where
@@ -219,7 +218,7 @@ module _ (k : Class) (s : List ℕ) (low high : ℕ) where
     pub find_begin : {p : Passed} → p ≡ origin → Skimmable k s low high p
     find_begin {p} o = subst (Skimmable k s low high) (sym o) (skim_allowed whole (scan_begin low high whole))
 
-    pub find_words : {f : Found} → f ≡ found_of (contained (between low high) (words_read k s)) → f ≡ found_of (contained (between low high) (decode k s))
+    pub find_words : {f : Result ℕ Refused} → f ≡ found_of (contained (between low high) (words_read k s)) → f ≡ found_of (contained (between low high) (decode k s))
     find_words q = q ∙ ap (λ (o : Outcome (List ℕ)). found_of (contained (between low high) o)) (sym (decode_whole k s whole))
 
     module _ {b q : Passed} (o : b ≡ origin) (u : Skims k s low high b q) where
@@ -229,7 +228,7 @@ module _ (k : Class) (s : List ℕ) (low high : ℕ) where
       pub find_rest : Begun k s low high q.at q.place q.count
       find_rest = record { whole = whole; skimmed = p }
 
-      pub find_all : length s ≤ q.at → Count q.count ≡ found_of (contained (between low high) (decode k s))
+      pub find_all : length s ≤ q.at → Ok q.count ≡ found_of (contained (between low high) (decode k s))
       find_all l =
           let b = scan_begin low high whole in
           find_words (scan_end b p whole (survey_all (omega (arith, scan_small b p whole))) l)
@@ -237,15 +236,9 @@ module _ (k : Class) (s : List ℕ) (low high : ℕ) where
 pub ruleset finding = (find_long, find_part, find_begin, find_words, find_rest, find_all, rules)
 
 -- ---- the same between the ends of the space: r is its last offset, and an end past it holds no offset back
-module _ (k : Class) (r : ℕ) (h : r + bytes_of k ≡ space_of k) where
-  pub count_high : Fits w64 (r + 1)
-  count_high = record { fits = omega (arith, space_most k, bytes_least k) }
-
-  module _ (s : List ℕ) {f : Found} where
-    pub count_all : f ≡ found_of (contained (between 0 (r + 1)) (decode k s)) → f ≡ found_of (decode k s)
-    count_all e =
-        let all : contained (between 0 (r + 1)) (decode k s) ≡ decode k s =
-        contained_space k s (between 0 (r + 1)) (λ x. true) (λ x l. rw (le-leb 0 x (omega arith)) (lt-ltb x (r + 1) (omega arith))) ∙ contained_every (decode k s) in
-        e ∙ ap found_of all
-
-pub ruleset counts = (count_high, count_all, find_long, find_part, find_begin, find_words, find_rest, find_all, rules)
+pub count_all : (k : Class) (r : ℕ) → r + bytes_of k ≡ space_of k → (s : List ℕ) {f : Result ℕ Refused}
+    → f ≡ found_of (contained (between 0 (r + 1)) (decode k s)) → f ≡ found_of (decode k s)
+count_all k r h s e =
+    let all : contained (between 0 (r + 1)) (decode k s) ≡ decode k s =
+    contained_space k s (between 0 (r + 1)) (λ x. true) (λ x l. rw (le-leb 0 x (omega arith)) (lt-ltb x (r + 1) (omega arith))) ∙ contained_every (decode k s) in
+    e ∙ ap found_of all

@@ -12,6 +12,7 @@ use mir.Val.{Fits}
 use borrow.Author.Rules.{rules}
 use borrow.Author.Tests.{lt-ltb, ltb-true, lt-leb, le-leb, leb-true}
 use lib.Dec.{leb, ltb, lit≤}
+use Rattle.std.specs.Prelude.{Option, Some, None}
 use Rattle.answer.proofs.Limits.{input_most}
 use Rattle.word.specs.declared.Class.{Class}
 use Rattle.word.specs.Class.{bytes_of, window_of}
@@ -23,7 +24,7 @@ use Rattle.relr_table.specs.Place.{Place, Stands, inside}
 use Rattle.relr_table.specs.Inner.{marks_of, Marked, Whole, between}
 use Rattle.relr_walk.specs.declared.skim.Passed.{Passed}
 use Rattle.relr_walk.specs.declared.skim.Stepped.{Stepped}
-use Rattle.relr_walk.specs.declared.skim.Stepped.TheVariants.{One, Many, Stops}
+use Rattle.relr_walk.specs.declared.skim.Stepped.TheVariants.{One, Many}
 use Rattle.relr_walk.specs.Inner.{Scanned, Skimmable, Skims, Top, Fence, Cleared, Steps}
 use Rattle.relr_walk.proofs.Leads.{leads_all}
 use Rattle.relr_table.proofs.Marked.{On, all_map, marked_on, marked_most}
@@ -122,7 +123,7 @@ module _ {k : Class} {low high clear : ℕ} (f : Fence k high clear) where
 
 module _ (k : Class) (low clear : ℕ) {b : Bool} where
   pub step_address : {x c : ℕ} → x % 2 ≡ 0 → b ≡ between low clear x → b ≡ true → c ≡ bytes_of k → (p : Place) (high : ℕ) → Fence k high clear
-      → Steps k low high p x (One (x + c))
+      → Steps k low high p x (Some (One (x + c)))
   step_address {x} {c} even be was ce p high f w s =
       let t = sym be ∙ was in
       let (in_space, in-high) = f x (between_true low clear x t).1 in
@@ -132,7 +133,7 @@ module _ (k : Class) (low clear : ℕ) {b : Bool} where
       (sym (ap length (one_mark k x))) t
 
   pub step_bitmap : {x d n : ℕ} {p : Place} → (x % 2 ≡ 0 → ⊥) → x < space_of k → b ≡ between low clear p → b ≡ true → d ≡ window_of k * bytes_of k
-      → ((c m u : ℕ) → x / 2 < 2 ^ m → n ≡ length (marked c m (x / 2) u)) → (high : ℕ) → Fence k high clear → Steps k low high p x (Many n (p + d))
+      → ((c m u : ℕ) → x / 2 < 2 ^ m → n ≡ length (marked c m (x / 2) u)) → (high : ℕ) → Fence k high clear → Steps k low high p x (Some (Many n (p + d)))
   step_bitmap {x} {d} {n} {p} odd small be was de tells high f w s =
       let t = sym be ∙ was in
       let (in_space, in-high) = f p (between_true low clear p t).1 in
@@ -149,7 +150,7 @@ module _ (k : Class) (low clear : ℕ) {b : Bool} where
     pub step_stride : {d : ℕ} → d ≡ window_of k * bytes_of k → Fits w64 (u + d)
     step_stride de = let (in_space, in-high) = some.1 u (between_true low clear u (sym be ∙ was)).1 in record { fits = omega (arith, space_most k, bytes_least k) }
 
-pub step_stops : (k : Class) (low clear : ℕ) (p : Place) (x high : ℕ) → Fence k high clear → Steps k low high p x Stops
+pub step_stops : (k : Class) (low clear : ℕ) (p : Place) (x high : ℕ) → Fence k high clear → Steps k low high p x None
 step_stops k low clear p x high f = tt
 
 pub ruleset steps = (step_address, step_bitmap, step_word, step_stride, step_stops, half_fits, rules)
@@ -157,7 +158,7 @@ pub ruleset steps = (step_address, step_bitmap, step_word, step_stride, step_sto
 -- ---- an address nearer to the end than a window
 module _ (k : Class) (low top clear : ℕ) {b : Bool} where
   pub near_address : {x c : ℕ} → x % 2 ≡ 0 → b ≡ between low top x → b ≡ true → c ≡ bytes_of k → (p : Place) (high : ℕ) → Top k high top → Fence k high clear
-      → Steps k low high p x (One (x + c))
+      → Steps k low high p x (Some (One (x + c)))
   near_address {x} {c} even be was ce p high t f w s =
       let (l, lt) = between_true low top x (sym be ∙ was) in
       let (in_space, in-high) = t x lt in
@@ -178,7 +179,7 @@ module _ (k : Class) (low top clear : ℕ) {b : Bool} where
 
 -- any other word
 module _ (k : Class) (low top clear : ℕ) where
-  pub near_other : (p x : ℕ) (r : Stepped) → ((high : ℕ) → Fence k high clear → Steps k low high p x r) → (high : ℕ) → Top k high top → Fence k high clear → Steps k low high p x r
+  pub near_other : (p x : ℕ) (r : Option Stepped) → ((high : ℕ) → Fence k high clear → Steps k low high p x r) → (high : ℕ) → Top k high top → Fence k high clear → Steps k low high p x r
   near_other p x r o high t f = o high f
 
   pub near_fence : ((high : ℕ) × Top k high top × Fence k high clear) → (high : ℕ) × Fence k high clear
@@ -242,11 +243,11 @@ module _ {k : Class} {s : List ℕ} {low high : ℕ} {from : Passed} (a : Skimma
       → Skimming k s low high from.at from.place from.count (at + c) next (count + n)
   further l e z ce = record { ahead = omega (arith, g.ahead); on = λ first h. rw ce (scan_step (g.on first h) l e z) }
 
-  module _ {top clear x : ℕ} {next : Place} {r : Stepped} (l : at < length s) (e : x ≡ word_at k s at) (t : Top k high top) (f : Fence k high clear)
+  module _ {top clear x : ℕ} {next : Place} {r : Option Stepped} (l : at < length s) (e : x ≡ word_at k s at) (t : Top k high top) (f : Fence k high clear)
       (o : (high : ℕ) → Top k high top → Fence k high clear → Steps k low high p x r) where
-    module _ (q : r ≡ One next) where
+    module _ {i : Stepped} (is : r ≡ Some i) (q : i ≡ One next) where
       one : (w : Where) → Stands k w p → Cleared k low high w x 1 next
-      one = subst (Steps k low high p x) q (o high t f)
+      one = subst (Steps k low high p x) (is ∙ ap Some q) (o high t f)
 
       pub one_sum : Fits w64 (count + 1)
       one_sum = scan_sum now l e one a.whole
@@ -254,9 +255,9 @@ module _ {k : Class} {s : List ℕ} {low high : ℕ} {from : Passed} (a : Skimma
       pub one_on : {c : ℕ} → c ≡ bytes_of k → Skimming k s low high from.at from.place from.count (at + c) next (count + 1)
       one_on ce = further l e one ce
 
-    module _ {n : ℕ} (q : r ≡ Many n next) where
+    module _ {i : Stepped} {n : ℕ} (is : r ≡ Some i) (q : i ≡ Many n next) where
       many : (w : Where) → Stands k w p → Cleared k low high w x n next
-      many = subst (Steps k low high p x) q (o high t f)
+      many = subst (Steps k low high p x) (is ∙ ap Some q) (o high t f)
 
       pub many_sum : Fits w64 (count + n)
       many_sum = scan_sum now l e many a.whole

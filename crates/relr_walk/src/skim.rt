@@ -51,39 +51,38 @@ fn marks(set: u64) -> u64
     u64::count_ones(set) as u64
 }
 
-// A word that is passed, with the next one's *where*: an address, or a bitmap with how many offsets it stands for; or one that is not.
+// A word that is passed, with the next one's *where*: an address, or a bitmap with how many offsets it stands for.
 #[derive(Clone, Copy)]
 pub enum Stepped {
     One(u64),
     Many(u64, u64),
-    Stops,
 }
 
 // Passes the word x at a place if a bitmap anchored where it points would lie between the two ends, so that all it marks does.
-fn step(k: Class, low: u64, clear: u64, place: u64, x: u64) -> Stepped
+fn step(k: Class, low: u64, clear: u64, place: u64, x: u64) -> Option<Stepped>
     requires { (x < space_of k) × ((high : ℕ) × Fence k high clear) }
     ensures { (high : ℕ) → Fence k high clear → Steps k low high place x result }
 {
     if x % 2 == 0 {
         if within(low, clear, x) {
-            return Stepped::One(x + k.bytes() as u64);
+            return Some(Stepped::One(x + k.bytes() as u64));
         }
-        return Stepped::Stops;
+        return None;
     }
     if within(low, clear, place) {
-        return Stepped::Many(marks(x / 2), place + k.stride());
+        return Some(Stepped::Many(marks(x / 2), place + k.stride()));
     }
-    Stepped::Stops
+    None
 }
 
 // The same, but that an address, which marks one location, may lie nearer to the high end than a window.
-fn step_near(k: Class, low: u64, top: u64, clear: u64, place: u64, x: u64) -> Stepped
+fn step_near(k: Class, low: u64, top: u64, clear: u64, place: u64, x: u64) -> Option<Stepped>
     requires { (x < space_of k) × ((high : ℕ) × Top k high top × Fence k high clear) }
     ensures { (high : ℕ) → Top k high top → Fence k high clear → Steps k low high place x result }
 {
     if x % 2 == 0 {
         if within(low, top, x) {
-            return Stepped::One(x + k.bytes() as u64);
+            return Some(Stepped::One(x + k.bytes() as u64));
         }
     }
     step(k, low, clear, place, x)
@@ -122,15 +121,15 @@ pub fn pass(k: Class, s: &[u8], low: u64, high: u64, from: Passed) -> Passed
     while at < s.len() {
         let stepped = step_near(k, low, top, clear, place, word::load(k, s, at));
         match stepped {
-            Stepped::Stops => {
+            None => {
                 return Passed { at, place, count };
             }
-            Stepped::One(next) => {
+            Some(Stepped::One(next)) => {
                 count += 1;
                 place = next;
                 at += c;
             }
-            Stepped::Many(n, next) => {
+            Some(Stepped::Many(n, next)) => {
                 count += n;
                 place = next;
                 at += c;
@@ -140,47 +139,24 @@ pub fn pass(k: Class, s: &[u8], low: u64, high: u64, from: Passed) -> Passed
     Passed { at, place, count }
 }
 
-// The same by flags for the class, and for each class, so that the compiler makes a loop for each.
-fn pass_by(wide: bool, big: bool, s: &[u8], low: u64, high: u64, from: Passed) -> Passed
-    requires { Skimmable (flagged wide big) s.now low high from }
-    ensures { Skims (flagged wide big) s.now low high from result }
+// The same for a class that two flags name, so that the compiler makes a loop for each.
+fn pass_by<const WIDE: bool, const BIG: bool>(s: &[u8], low: u64, high: u64, from: Passed) -> Passed
+    requires { Skimmable (flagged WIDE BIG) s.now low high from }
+    ensures { Skims (flagged WIDE BIG) s.now low high from result }
 {
-    pass(place::chosen(wide, big), s, low, high, from)
+    pass(place::chosen(WIDE, BIG), s, low, high, from)
 }
 
+// The same for any class.
+#[inline(always)]
 pub fn pass_class(k: Class, s: &[u8], low: u64, high: u64, from: Passed) -> Passed
     requires { Skimmable k s.now low high from }
     ensures { Skims k s.now low high from result }
 {
-    let size = k.size;
-    let order = k.order;
-    match size {
-        Size::Four => match order {
-            ByteOrder::Little => pass_by(false, false, s, low, high, from),
-            ByteOrder::Big => pass_by(false, true, s, low, high, from),
-        },
-        Size::Eight => match order {
-            ByteOrder::Little => pass_by(true, false, s, low, high, from),
-            ByteOrder::Big => pass_by(true, true, s, low, high, from),
-        },
-    }
-}
-
-// The same from the low end of the space on. (It is written out again so that the compiler knows that end.)
-pub fn pass_space(k: Class, s: &[u8], high: u64, from: Passed) -> Passed
-    requires { Skimmable k s.now 0 high from }
-    ensures { Skims k s.now 0 high from result }
-{
-    let size = k.size;
-    let order = k.order;
-    match size {
-        Size::Four => match order {
-            ByteOrder::Little => pass_by(false, false, s, 0, high, from),
-            ByteOrder::Big => pass_by(false, true, s, 0, high, from),
-        },
-        Size::Eight => match order {
-            ByteOrder::Little => pass_by(true, false, s, 0, high, from),
-            ByteOrder::Big => pass_by(true, true, s, 0, high, from),
-        },
+    match (k.size, k.order) {
+        (Size::Four, ByteOrder::Little) => pass_by::<false, false>(s, low, high, from),
+        (Size::Four, ByteOrder::Big) => pass_by::<false, true>(s, low, high, from),
+        (Size::Eight, ByteOrder::Little) => pass_by::<true, false>(s, low, high, from),
+        (Size::Eight, ByteOrder::Big) => pass_by::<true, true>(s, low, high, from),
     }
 }

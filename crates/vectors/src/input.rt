@@ -56,7 +56,7 @@ pub fn u64le<R: Read>(reader: &mut R) -> io::Result<u64> {
 
 pub fn case_settings<R: Read>(reader: &mut R) -> io::Result<Settings> {
     let class = u32le(reader)?;
-    let order = ByteOrder::of(byte(reader)? == BIG);
+    let order = ByteOrder::from(byte(reader)? == BIG);
     let strict = byte(reader)? == STRICT;
     let base = u64le(reader)?;
     let start = u64le(reader)?;

@@ -1,9 +1,5 @@
-use Rattle.std.proofs.Common.{◌-◌}
 use Rattle.relr_read.proofs.PassNeeds.{Running}
 use Rattle.relr_read.proofs.fill_run.Given as goal
 
-abbrev pub invariant-loop-j : goal.invariant-loop-j
-invariant-loop-j l = Running l.k l.initial.column l.at l.anchor l.n l.column l.x l.i l.j
-
-abbrev pub decreases-loop-j : goal.decreases-loop-j
-decreases-loop-j l = l.n - l.j
+abbrev pub invariant-loop-location : goal.invariant-loop-location
+invariant-loop-location l = Running l.k l.anchor l.location-items l.x l.location-index

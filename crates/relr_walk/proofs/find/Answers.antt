@@ -6,15 +6,9 @@ pub returns-then-s-gt-INPUT_LIMIT : goal.returns-then-s-gt-INPUT_LIMIT
 unfolding input_limit
 returns-then-s-gt-INPUT_LIMIT c = search finding
 
-pub rest-requires : goal.rest-requires
-rest-requires c = search finding
-
 pub returns-then-rest-gt0 : goal.returns-then-rest-gt0
 unfolding input_limit
 returns-then-rest-gt0 c = search finding
-
-pub begin-requires : goal.begin-requires
-begin-requires c = search finding
 
 pub pass_class-passed-requires : goal.pass_class-passed-requires
 unfolding input_limit

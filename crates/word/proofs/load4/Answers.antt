@@ -1,56 +1,8 @@
-use Rattle.word.proofs.Shapes.{words}
+use Rattle.std.proofs.Common.{ℕ, ◌+◌, refl}
+use Rattle.word.proofs.Shapes.{load_four}
 use Rattle.word.proofs.load4.Goals as goal
 
-pub bounds-s-at : goal.bounds-s-at
-bounds-s-at c = search words
-
-pub wide-requires : goal.wide-requires
-wide-requires c = search words
-
-pub overflow_add-at : goal.overflow_add-at
-overflow_add-at c = search words
-
-pub bounds-s-at-2 : goal.bounds-s-at-2
-bounds-s-at-2 c = search words
-
-pub wide-requires-2 : goal.wide-requires-2
-wide-requires-2 c = search words
-
-pub overflow_mul-result : goal.overflow_mul-result
-overflow_mul-result c = search words
-
-pub overflow_add-result : goal.overflow_add-result
-overflow_add-result c = search words
-
-pub overflow_add-at-2 : goal.overflow_add-at-2
-overflow_add-at-2 c = search words
-
-pub bounds-s-at-3 : goal.bounds-s-at-3
-bounds-s-at-3 c = search words
-
-pub wide-requires-3 : goal.wide-requires-3
-wide-requires-3 c = search words
-
-pub overflow_mul-result-2 : goal.overflow_mul-result-2
-overflow_mul-result-2 c = search words
-
-pub overflow_add-result-2 : goal.overflow_add-result-2
-overflow_add-result-2 c = search words
-
-pub overflow_add-at-3 : goal.overflow_add-at-3
-overflow_add-at-3 c = search words
-
-pub bounds-s-at-4 : goal.bounds-s-at-4
-bounds-s-at-4 c = search words
-
-pub wide-requires-4 : goal.wide-requires-4
-wide-requires-4 c = search words
-
-pub overflow_mul-result-3 : goal.overflow_mul-result-3
-overflow_mul-result-3 c = search words
-
-pub overflow_add-result-3 : goal.overflow_add-result-3
-overflow_add-result-3 c = search words
-
 pub returns : goal.returns
-returns c = search words
+returns c =
+    let small = λ (i : ℕ). (c.type_inv.s i).fits in
+    rw c.from_le_bytes.ensures (load_four c.args.s.now c.args.at c.requires refl refl refl refl (small c.args.at) (small (c.args.at + 1)) (small (c.args.at + 2)) (small (c.args.at + 3)))

@@ -1,23 +1,9 @@
-use Rattle.word.proofs.Shapes.{words}
+use Rattle.std.proofs.Common.{◌≡◌, ◌+◌, ◌*◌, ◌/◌, ◌%◌, arith}
+use Rattle.word.proofs.Shapes.{swap_four}
 use Rattle.word.proofs.swap4.Goals as goal
 
-pub overflow_mul-result : goal.overflow_mul-result
-overflow_mul-result c = search words
-
-pub overflow_add-result : goal.overflow_add-result
-overflow_add-result c = search words
-
-pub overflow_mul-result-2 : goal.overflow_mul-result-2
-overflow_mul-result-2 c = search words
-
-pub overflow_add-result-2 : goal.overflow_add-result-2
-overflow_add-result-2 c = search words
-
-pub overflow_mul-result-3 : goal.overflow_mul-result-3
-overflow_mul-result-3 c = search words
-
-pub overflow_add-result-3 : goal.overflow_add-result-3
-overflow_add-result-3 c = search words
-
 pub returns : goal.returns
-returns c = search words
+returns c =
+    let w = c.args.w in
+    let e : c.swap_bytes.result ≡ w / 16777216 % 256 + w / 65536 % 256 * 256 + w / 256 % 256 * 65536 + w % 256 * 16777216 = omega arith in
+    (rw e (swap_four w), c.swap_bytes.type_inv)

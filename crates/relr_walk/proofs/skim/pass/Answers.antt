@@ -1,62 +1,17 @@
-use Rattle.relr_walk.proofs.SkimNeeds.{skims}
+use Rattle.relr_walk.proofs.SkimNeeds.{skims, one_sum, one_on, many_sum, many_on}
 use Rattle.relr_walk.proofs.skim.pass.Goals as goal
-
-pub bytes-c-requires : goal.bytes-c-requires
-bytes-c-requires c = search skims
-
-pub overflow_cast-c : goal.overflow_cast-c
-overflow_cast-c c = search skims
-
-pub top-top-requires : goal.top-top-requires
-top-top-requires c = search skims
-
-pub fence-clear-requires : goal.fence-clear-requires
-fence-clear-requires c = search skims
-
-pub loop-at-init : goal.loop-at-init
-loop-at-init c = search skims
 
 pub load-requires : goal.load-requires
 load-requires c = search skims
 
-pub step_near-stepped-requires : goal.step_near-stepped-requires
-step_near-stepped-requires c = search skims
-
-pub enum_told-1 : goal.enum_told-1
-enum_told-1 c = search skims
-
-pub returns-in-Stops : goal.returns-in-Stops
-returns-in-Stops c = search skims
-
-pub enum_known-stepped : goal.enum_known-stepped
-enum_known-stepped c = search skims
-
 pub overflow_add-count : goal.overflow_add-count
-overflow_add-count c = search skims
+overflow_add-count c = one_sum c.requires c.loop-at.invariant c.loop-at-test.true c.load.ensures.0 c.top-top.ensures c.fence-clear.ensures c.step_near-stepped.ensures c.in-Some-One.is (rw c.in-Some-One.is at c.in-Some-One.field-0-is)
 
-pub overflow_add-at : goal.overflow_add-at
-overflow_add-at c = search skims
+pub loop-at-preserved-in-Some-One : goal.loop-at-preserved-in-Some-One
+loop-at-preserved-in-Some-One c = one_on c.requires c.loop-at.invariant c.loop-at-test.true c.load.ensures.0 c.top-top.ensures c.fence-clear.ensures c.step_near-stepped.ensures c.in-Some-One.is (rw c.in-Some-One.is at c.in-Some-One.field-0-is) c.bytes-c.ensures
 
-pub loop-at-smaller-in-One : goal.loop-at-smaller-in-One
-loop-at-smaller-in-One c = search skims
-
-pub loop-at-preserved-in-One : goal.loop-at-preserved-in-One
-loop-at-preserved-in-One c = search skims
-
-pub enum_known-stepped-in-Many-1 : goal.enum_known-stepped-in-Many-1
-enum_known-stepped-in-Many-1 c = search skims
-
-pub overflow_add-count-in-Many : goal.overflow_add-count-in-Many
-overflow_add-count-in-Many c = search skims
-
-pub overflow_add-at-in-Many : goal.overflow_add-at-in-Many
-overflow_add-at-in-Many c = search skims
-
-pub loop-at-smaller : goal.loop-at-smaller
-loop-at-smaller c = search skims
+pub overflow_add-count-in-Some-Many : goal.overflow_add-count-in-Some-Many
+overflow_add-count-in-Some-Many c = many_sum c.requires c.loop-at.invariant c.loop-at-test.true c.load.ensures.0 c.top-top.ensures c.fence-clear.ensures c.step_near-stepped.ensures c.in-Some-Many.is (rw c.in-Some-Many.is at c.in-Some-Many.field-0-is)
 
 pub loop-at-preserved : goal.loop-at-preserved
-loop-at-preserved c = search skims
-
-pub returns : goal.returns
-returns c = search skims
+loop-at-preserved c = many_on c.requires c.loop-at.invariant c.loop-at-test.true c.load.ensures.0 c.top-top.ensures c.fence-clear.ensures c.step_near-stepped.ensures c.in-Some-Many.is (rw c.in-Some-Many.is at c.in-Some-Many.field-0-is) c.bytes-c.ensures
