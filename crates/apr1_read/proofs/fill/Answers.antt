@@ -1,4 +1,3 @@
-use borrow.Author.Rules.{rules}
 use Rattle.apr1_read.proofs.PassNeeds.{fill_able, fill_walkable, fill_is, fill_not}
 use Rattle.apr1_read.proofs.fill.Goals as goal
 

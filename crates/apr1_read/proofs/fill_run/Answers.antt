@@ -4,9 +4,6 @@ use Rattle.apr1_read.proofs.fill_run.Goals as goal
 pub loop-z-init : goal.loop-z-init
 loop-z-init c = search runs
 
-pub overflow_add-y : goal.overflow_add-y
-overflow_add-y c = search runs
-
 pub loop-z-preserved : goal.loop-z-preserved
 loop-z-preserved c = search runs
 

@@ -5,9 +5,6 @@ use Rattle.apr1_read.proofs.walk.Goals as goal
 pub loop-passed-init : goal.loop-passed-init
 loop-passed-init c = search walks
 
-pub entry_at-requires : goal.entry_at-requires
-entry_at-requires c = search walks
-
 pub returns-in_err-entry : goal.returns-in_err-entry
 returns-in_err-entry c = walk_bad c.loop-passed.invariant (search rules) _ c.from_residual.ensures.1 c.in_err-entry.ensures.0
 
