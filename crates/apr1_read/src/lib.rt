@@ -5,130 +5,118 @@
 ghost use Rattle.std.specs.Prelude.{◌≡◌, false, ◌+◌, ◌≤◌, length};
 ghost use Rattle.answer.specs.Outcome.{found_of, input_limit};
 ghost use Rattle.answer.specs.Written.{Written};
-ghost use Rattle.records.specs.Identifier.{starts_with};
 ghost use Rattle.records.specs.Reading.{records};
-ghost use Rattle.apr1_table.specs.Table.{identifier, last, run, step_at, parse, decode};
+ghost use Rattle.apr1_table.specs.Table.{last, run, step_at, parse, decode};
 ghost use Rattle.apr1_read.specs.Inner.{entry_step, head_at, body, Placed, Headed, Walkable, Runnable, Started, Fillable, Filled};
 
-use answer::{Found, Refusal};
+use answer::{Refusal, Refused};
 use apr1_table::LAST;
-use leb128::Unsigned;
 
 // A pair: C and D, the offset behind it, and the place past it.
 #[derive(Clone, Copy)]
-pub enum Entry {
-    Pair(u64, u64, u64, usize),
-    Refused(Refusal, usize),
+pub struct Entry {
+    pub count: u64,
+    pub gap: u64,
+    pub reach: u64,
+    pub past: usize,
 }
 
-// N, A, and the place of the first pair.
+// N, the number of pairs; A, the first offset; and the place of the first pair.
 #[derive(Clone, Copy)]
-pub enum Head {
-    Table(u64, u64, usize),
-    Refused(Refusal, usize),
+pub struct Head {
+    pub pairs: u64,
+    pub offset: u64,
+    pub start: usize,
 }
 
 // The pair at a place, behind an offset.
-fn entry_at(strict: bool, s: &[u8], at: usize, x: u64) -> Entry
+fn entry_at(strict: bool, s: &[u8], at: usize, x: u64) -> Result<Entry, Refused>
     requires { x ≤ last }
     ensures { (entry_step result ≡ step_at strict s.now at x) × Placed s.now at x result }
 {
-    let first = leb128::read_unsigned(strict, s, at, 32);
-    let Unsigned::Value(c, next) = first else {
-        let cause = first.cause();
-        let why = cause.why;
-        return Entry::Refused(why, cause.place);
-    };
-    let second = leb128::read_unsigned(strict, s, next, 32);
-    let Unsigned::Value(d, past) = second else {
-        let cause = second.cause();
-        let why = cause.why;
-        return Entry::Refused(why, cause.place);
-    };
-    let reach = x + c * d;
+    let (count, next) = leb128::read_unsigned(strict, s, at, 32)?;
+    let (gap, past) = leb128::read_unsigned(strict, s, next, 32)?;
+    let reach = x + count * gap;
     if LAST < reach {
-        return Entry::Refused(Refusal::Space, at);
+        return Err(Refused {
+            why: Refusal::Space,
+            place: at as u64,
+        });
     }
-    Entry::Pair(c, d, reach, past)
-}
-
-// Whether a table has APR1's identifier.
-fn identified(s: &[u8]) -> bool
-    ensures { result ≡ starts_with identifier s.now }
-{
-    records::starts_with(s, b"APR1")
+    Ok(Entry {
+        count,
+        gap,
+        reach,
+        past,
+    })
 }
 
 // The head of a table.
-fn head_of(strict: bool, s: &[u8]) -> Head
+fn head_of(strict: bool, s: &[u8]) -> Result<Head, Refused>
     ensures { (result ≡ head_at strict s.now) × Headed s.now result }
 {
-    if !identified(s) {
-        return Head::Refused(Refusal::Identifier, 0);
+    if !records::starts_with(s, b"APR1") {
+        return Err(Refused {
+            why: Refusal::Identifier,
+            place: 0,
+        });
     }
-    let count = leb128::read_unsigned(strict, s, 4, 32);
-    let Unsigned::Value(n, next) = count else {
-        let cause = count.cause();
-        let why = cause.why;
-        return Head::Refused(why, cause.place);
-    };
-    let offset = leb128::read_unsigned(strict, s, next, 32);
-    let Unsigned::Value(a, first) = offset else {
-        let cause = offset.cause();
-        let why = cause.why;
-        return Head::Refused(why, cause.place);
-    };
-    if LAST < a {
-        return Head::Refused(Refusal::Space, next);
+    let (pairs, next) = leb128::read_unsigned(strict, s, 4, 32)?;
+    let (offset, start) = leb128::read_unsigned(strict, s, next, 32)?;
+    if LAST < offset {
+        return Err(Refused {
+            why: Refusal::Space,
+            place: next as u64,
+        });
     }
-    Head::Table(n, a, first)
+    Ok(Head {
+        pairs,
+        offset,
+        start,
+    })
 }
 
-// The first pass over so many pairs from a place on: how many offsets, or the refusal. No pair is expanded.
-fn walk(strict: bool, s: &[u8], n: u64, a: u64, first: usize) -> Found
-    requires { Walkable s.now a first }
-    ensures { result ≡ found_of (body strict s.now n a first) }
+// The first pass over the pairs behind a head: how many offsets, or the refusal. No pair is expanded.
+fn walk(strict: bool, s: &[u8], head: Head) -> Result<u64, Refused>
+    requires { Walkable s.now head.offset head.start }
+    ensures { result ≡ found_of (body strict s.now head.pairs head.offset head.start) }
 {
-    let mut left = n;
-    let mut at = first;
-    let mut x = a;
+    let mut at = head.start;
+    let mut x = head.offset;
     let mut count: u64 = 1;
-    while 0 < left {
-        match entry_at(strict, s, at, x) {
-            Entry::Refused(why, place) => {
-                return Found::Refused(why, place as u64);
-            }
-            Entry::Pair(c, _, reach, past) => {
-                count += c;
-                x = reach;
-                at = past;
-                left -= 1;
-            }
-        }
+    for _passed in 0..head.pairs {
+        let entry = entry_at(strict, s, at, x)?;
+        count += entry.count;
+        x = entry.reach;
+        at = entry.past;
     }
     if at < s.len() {
-        return Found::Refused(Refusal::Trailing, at as u64);
+        return Err(Refused {
+            why: Refusal::Trailing,
+            place: at as u64,
+        });
     }
-    Found::Count(count)
+    Ok(count)
 }
 
 // How many offsets a table within the limit has, or the refusal.
-fn scan(strict: bool, s: &[u8]) -> Found
+fn scan(strict: bool, s: &[u8]) -> Result<u64, Refused>
     requires { length s.now ≤ input_limit }
     ensures { result ≡ found_of (parse strict s.now) }
 {
-    match head_of(strict, s) {
-        Head::Refused(why, place) => Found::Refused(why, place as u64),
-        Head::Table(n, a, first) => walk(strict, s, n, a, first),
-    }
+    let head = head_of(strict, s)?;
+    walk(strict, s, head)
 }
 
 // How many offsets any bytes have, or the refusal.
-pub fn check(strict: bool, s: &[u8]) -> Found
+pub fn check(strict: bool, s: &[u8]) -> Result<u64, Refused>
     ensures { result ≡ found_of (decode strict s.now) }
 {
     if answer::INPUT_LIMIT < s.len() {
-        return Found::Refused(Refusal::Limit, 0);
+        return Err(Refused {
+            why: Refusal::Limit,
+            place: 0,
+        });
     }
     scan(strict, s)
 }
@@ -138,51 +126,43 @@ fn fill_run(column: &mut [u64], from: usize, x: u64, c: u64, d: u64) -> usize
     requires { Runnable column.old from x c d }
     ensures { Written column.old column.new from result (run x c d) }
 {
-    let mut i = from;
+    let end = from + c as usize;
     let mut y = x;
-    let mut more = c;
-    while 0 < more {
+    for z in &mut column[from..end] {
         y += d;
-        column[i] = y;
-        i += 1;
-        more -= 1;
+        *z = y;
     }
-    i
+    end
 }
 
 // The second pass over pairs that the first accepted, behind the first offset: none is tested again.
-fn store_pairs(s: &[u8], n: u64, a: u64, first: usize, column: &mut [u64])
-    requires { Fillable (body false s.now n a first) column.old × Walkable s.now a first × Started a column.old }
-    ensures { Filled (body false s.now n a first) column.old column.new }
+fn store_pairs(s: &[u8], head: Head, column: &mut [u64])
+    requires { Fillable (body false s.now head.pairs head.offset head.start) column.old × Walkable s.now head.offset head.start × Started head.offset column.old }
+    ensures { Filled (body false s.now head.pairs head.offset head.start) column.old column.new }
 {
-    let mut rest = n;
-    let mut from = first;
-    let mut x = a;
+    let mut from = head.start;
+    let mut x = head.offset;
     let mut i: usize = 1;
-    while 0 < rest {
-        let number = leb128::read_unsigned(false, s, from, 32);
-        let Unsigned::Value(c, next) = number else {
+    for _stored in 0..head.pairs {
+        let Ok((c, next)) = leb128::read_unsigned(false, s, from, 32) else {
             return;
         };
-        let second = leb128::read_unsigned(false, s, next, 32);
-        let Unsigned::Value(d, past) = second else {
+        let Ok((d, past)) = leb128::read_unsigned(false, s, next, 32) else {
             return;
         };
-        i = fill_run(&mut *column, i, x, c, d);
-        let reach = x + c * d;
-        x = reach;
+        i = fill_run(column, i, x, c, d);
+        x += c * d;
         from = past;
-        rest -= 1;
     }
 }
 
 // The first offset, and those of the pairs.
-fn store(s: &[u8], n: u64, a: u64, first: usize, column: &mut [u64])
-    requires { Fillable (body false s.now n a first) column.old × Walkable s.now a first }
-    ensures { Filled (body false s.now n a first) column.old column.new }
+fn store(s: &[u8], head: Head, column: &mut [u64])
+    requires { Fillable (body false s.now head.pairs head.offset head.start) column.old × Walkable s.now head.offset head.start }
+    ensures { Filled (body false s.now head.pairs head.offset head.start) column.old column.new }
 {
-    column[0] = a;
-    store_pairs(s, n, a, first, &mut *column);
+    column[0] = head.offset;
+    store_pairs(s, head, column);
 }
 
 // The offsets of a table that `check` accepted, in a column with room for them.
@@ -190,9 +170,8 @@ pub fn fill(s: &[u8], column: &mut [u64])
     requires { Fillable (decode false s.now) column.old }
     ensures { Filled (decode false s.now) column.old column.new }
 {
-    let head = head_of(false, s);
-    let Head::Table(n, a, first) = head else {
+    let Ok(head) = head_of(false, s) else {
         return;
     };
-    store(s, n, a, first, column);
+    store(s, head, column);
 }

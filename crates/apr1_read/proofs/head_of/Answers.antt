@@ -1,17 +1,19 @@
-use Rattle.apr1_read.proofs.EntryNeeds.{heads}
+use borrow.Author.Rules.{rules}
+use Rattle.apr1_read.proofs.EntryNeeds.{head_none, head_bad, head_bad_2, head_far, head_in_law}
 use Rattle.apr1_read.proofs.head_of.Goals as goal
 
-pub returns-then-not-identified : goal.returns-then-not-identified
-returns-then-not-identified c = search heads
+pub returns-then-not-starts_with : goal.returns-then-not-starts_with
+returns-then-not-starts_with c = head_none _ _ c.starts_with.ensures (search rules)
 
-pub returns-in_default : goal.returns-in_default
-returns-in_default c = search heads
+pub returns-in_err-pairs : goal.returns-in_err-pairs
+returns-in_err-pairs c = head_bad _ _ c.starts_with.ensures (search rules) _ c.from_residual.ensures.1 c.in_err-pairs.ensures
 
-pub returns-in_default-offset : goal.returns-in_default-offset
-returns-in_default-offset c = search heads
+pub returns-in_err-offset : goal.returns-in_err-offset
+returns-in_err-offset c =
+    head_bad_2 _ _ c.starts_with.ensures (search rules) c.in_ok-pairs.ensures _ c.from_residual-in_err-offset.ensures.1 c.in_err-offset.ensures
 
-pub returns-then-a-gt-LAST : goal.returns-then-a-gt-LAST
-returns-then-a-gt-LAST c = search heads
+pub returns-then-offset-gt-LAST : goal.returns-then-offset-gt-LAST
+returns-then-offset-gt-LAST c = head_far _ _ c.starts_with.ensures (search rules) c.in_ok-pairs.ensures c.in_ok-offset.ensures (search rules)
 
 pub returns : goal.returns
-returns c = search heads
+returns c = head_in_law _ _ c.starts_with.ensures (search rules) c.in_ok-pairs.ensures c.in_ok-offset.ensures (search rules)

@@ -1,11 +1,8 @@
-use Rattle.apr1_read.proofs.PassNeeds.{scans}
+use Rattle.apr1_read.proofs.PassNeeds.{scan_not, scan_is}
 use Rattle.apr1_read.proofs.scan.Goals as goal
 
-pub walk-requires : goal.walk-requires
-walk-requires c = search scans
+pub returns-in_err-head : goal.returns-in_err-head
+returns-in_err-head c = scan_not _ _ _ c.from_residual.ensures.1 c.in_err-head.ensures.0
 
-pub returns-in-Refused : goal.returns-in-Refused
-returns-in-Refused c = search scans
-
-pub returns-in-Table : goal.returns-in-Table
-returns-in-Table c = search scans
+pub returns : goal.returns
+returns c = scan_is _ _ c.in_ok-head.ensures.0 c.walk.ensures

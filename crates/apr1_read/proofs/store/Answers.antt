@@ -7,8 +7,5 @@ bounds-column-0 c = search starts
 pub store_pairs-requires : goal.store_pairs-requires
 store_pairs-requires c = search starts
 
-pub shape_of-column : goal.shape_of-column
-shape_of-column c = search starts
-
 pub returns : goal.returns
 returns c = search starts

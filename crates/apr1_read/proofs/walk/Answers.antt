@@ -1,32 +1,18 @@
-use Rattle.apr1_read.proofs.PassNeeds.{walks}
+use borrow.Author.Rules.{rules}
+use Rattle.apr1_read.proofs.PassNeeds.{walks, walk_bad, walk_sum, walk_more}
 use Rattle.apr1_read.proofs.walk.Goals as goal
 
-pub loop-left-init : goal.loop-left-init
-loop-left-init c = search walks
+pub loop-passed-init : goal.loop-passed-init
+loop-passed-init c = search walks
 
-pub entry_at-requires : goal.entry_at-requires
-entry_at-requires c = search walks
-
-pub enum_known-why : goal.enum_known-why
-enum_known-why c = search walks
-
-pub returns-in-Refused : goal.returns-in-Refused
-returns-in-Refused c = search walks
-
-pub enum_known-c : goal.enum_known-c
-enum_known-c c = search walks
+pub returns-in_err-entry : goal.returns-in_err-entry
+returns-in_err-entry c = walk_bad c.loop-passed.invariant (search rules) _ c.from_residual.ensures.1 c.in_err-entry.ensures.0
 
 pub overflow_add-count : goal.overflow_add-count
-overflow_add-count c = search walks
+overflow_add-count c = walk_sum c.loop-passed.invariant (search rules) _ c.in_ok-entry.ensures.0 c.in_ok-entry.ensures.1 c.requires
 
-pub overflow_sub-left : goal.overflow_sub-left
-overflow_sub-left c = search walks
-
-pub loop-left-smaller : goal.loop-left-smaller
-loop-left-smaller c = search walks
-
-pub loop-left-preserved : goal.loop-left-preserved
-loop-left-preserved c = search walks
+pub loop-passed-preserved : goal.loop-passed-preserved
+loop-passed-preserved c = walk_more c.loop-passed.invariant (search rules) _ c.in_ok-entry.ensures.0 c.in_ok-entry.ensures.1
 
 pub returns-then-at-s : goal.returns-then-at-s
 returns-then-at-s c = search walks
