@@ -13,6 +13,7 @@ use Rattle.answer.specs.declared.Refusal.TheVariants.{Identifier}
 use Rattle.answer.specs.Outcome.{accepted, list_limit}
 use Rattle.leb128.specs.Number.{read_signed, short_signed}
 use Rattle.leb128.proofs.Setting.{lax_signed_law, read_lax_signed, signed_value}
+use Rattle.leb128.proofs.Reading.{ok_parts}
 use Rattle.leb128.proofs.Strict.{strict_signed}
 use Rattle.records.specs.Columns.{zipped}
 use Rattle.records.specs.Columns.Laws.{zipped_map}
@@ -70,9 +71,8 @@ module _ (s : List ℕ) (bytes : Bytes s) where
   unfolding count_of plain
   count_forth {n} {first} (Ok ((pos m) , p)) (Ok (z , q)) e f g =
       let l : ok_at (pos m) p ≡ ok_at z q = sym e ∙ lax_signed_law 64 s (length identifier) ∙ read_lax_signed true 64 s (length identifier) f in
-      let h : mag z ≡ n = cc in
-      let k : pos m ≡ z = cc in
-      let o : q ≡ first = cc in
+      let (k, _) = ok_parts l in
+      let (h, o) = ok_parts {v = mag z} {w = n} {n = q} {m = first} g in
       f ∙ ap₂ ok_at (sym k ∙ ap pos (ap mag k ∙ h)) o
   count_forth (Ok ((pos m) , p)) (Err x) e f g = let z : ◌≡◌ {A = ℕ} 0 1 = cc in absurd (omega arith)
   count_forth (Ok ((negsuc m) , p)) v e f g = let z : ◌≡◌ {A = ℕ} 0 1 = cc in absurd (omega arith)
