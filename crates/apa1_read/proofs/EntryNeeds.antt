@@ -1,23 +1,19 @@
 -- The needs of the readers of a record and of the head, as the code asks them: what a callee returned is r, with what its contract says of r
 -- and what the match found r to be.
 -- Assumes nothing.
-use Prim.Native.Nat.{ℕ, ◌≤◌}
-use mathlib.Core.Path.{◌≡◌, refl, ap, ap₂, sym, ◌∙◌, subst}
-use mathlib.Core.Bool.{Bool, true, false, not}
+use Prim.Native.Nat.{ℕ}
+use mathlib.Core.Path.{◌≡◌, refl, ap, ap₂, sym, ◌∙◌}
+use mathlib.Core.Bool.{Bool, true, false}
 use mathlib.Core.List.{List}
-use native.Mathlib.Omega.{arith}
 use lib.IntN.{ℤ, pos, ◌+ℤ◌}
 use lib.Signed.{mag}
 use mir.Syntax.{w64}
 use mir.Val.{to_z, of_z}
-use borrow.Author.Rules.{rules}
-use borrow.Author.Tests.{not-true, not-false}
-use Rattle.std.specs.Prelude.{Result, Ok, Err, Option, Some, None}
-use Rattle.answer.specs.declared.Refusal.{Refusal}
+use Rattle.std.specs.Prelude.{Ok, Err, Option, Some, None}
 use Rattle.answer.specs.declared.Refusal.TheVariants.{Identifier, Width}
 use Rattle.answer.specs.declared.Refused.{Refused}
 use Rattle.answer.specs.Outcome.{err_at}
-use Rattle.leb128.specs.Number.{Unsigned, Signed, ok_at, read_signed, is_neg}
+use Rattle.leb128.specs.Number.{Unsigned, ok_at, read_signed, is_neg}
 use Rattle.leb128.specs.Inner.{EndsNumber}
 use Rattle.records.specs.Identifier.{starts_with}
 use Rattle.records.specs.Reading.{one, none}

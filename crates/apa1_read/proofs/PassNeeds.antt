@@ -1,17 +1,13 @@
 -- What both passes go by, as the code asks it: x is what the reader of a record returned.
 -- Assumes nothing.
-use Prim.Native.Nat.{ℕ, ◌+◌, ◌-◌, ◌*◌, ◌^◌, ◌≤◌, ◌<◌}
+use Prim.Native.Nat.{ℕ, ◌+◌, ◌-◌, ◌≤◌, ◌<◌}
 use mathlib.Core.Bool.{Bool}
-use mathlib.Core.Path.{◌≡◌, ap, sym, ◌∙◌, subst}
+use mathlib.Core.Path.{◌≡◌, ap, sym, ◌∙◌}
 use mathlib.Core.List.{List, [], ◌∷◌, ◌++◌}
 use native.Mathlib.Omega.{arith}
 use lib.IntN.{ℤ, pos}
 use lib.ListN.{length, set}
-use mir.Syntax.{w64}
-use mir.Val.{Fits}
-use borrow.Author.Rules.{rules, scaled_Fits}
 use Rattle.std.specs.Prelude.{Result, Ok, Err}
-use Rattle.answer.specs.declared.Refusal.{Refusal}
 use Rattle.answer.specs.declared.Refusal.TheVariants.{Limit, Trailing}
 use Rattle.answer.specs.declared.Refused.{Refused}
 use Rattle.answer.specs.Outcome.{Outcome, input_limit, found_of, err_at}
@@ -59,8 +55,6 @@ module _ {strict : Bool} {s : List ℕ} {n first i at : ℕ} (w : Walking strict
   pub walk_over : n ≤ i → at < length s → err_at Trailing at ≡ found_of (body strict s n first)
   walk_over h k = scanned_over w.scanned (omega arith) k
 
-pub ruleset walks = (walk_begin, walk_more, walk_end, walk_over, rules)
-
 -- ---- the second pass
 -- the records before a place stand in the columns, and w is the last addend
 pub record Storing (strict : Bool) (s : List ℕ) (n first : ℕ) (os₀ : List ℕ) (us₀ : List ℤ) (os : List ℕ) (us : List ℤ) (i at o : ℕ) (w : ℤ) : Type 0 where
@@ -78,10 +72,10 @@ module _ {strict : Bool} {s : List ℕ} {n first : ℕ} {os₀ : List ℕ} {us�
   within : i ≤ length os₀
   within = stored_within f.fitting g.stored
 
-  pub store_same : length os ≡ length os₀
+  store_same : length os ≡ length os₀
   store_same = column_same g.offsets g.stored.long within
 
-  pub store_same_2 : length us ≡ length us₀
+  store_same_2 : length us ≡ length us₀
   store_same_2 = column_same g.addends g.stored.long (omega (arith, within, f.same))
 
   pub store_bad : {e : Refused} → i < n → entry_step (Err e) ≡ step_at strict s at (row o w) → Filled (body strict s n first) os₀ us₀ os us
@@ -96,9 +90,6 @@ module _ {strict : Bool} {s : List ℕ} {n first : ℕ} {os₀ : List ℕ} {us�
 
     pub store_in_2 : i < length us
     store_in_2 = omega (arith, old_in, store_same_2, f.same)
-
-    pub store_scaled : length os₀ * 8 < 2 ^ 63 → Fits w64 (i * 8)
-    store_scaled q = scaled_Fits i (length os₀) 8 old_in q
 
     pub store_more : Storing strict s n first os₀ us₀ (set os i x.offset) (set us i x.addend) (i + 1) x.past x.offset x.addend
     store_more =
@@ -117,8 +108,6 @@ module _ {strict : Bool} {s : List ℕ} {n first : ℕ} {os₀ : List ℕ} {us�
         offsets = column_filled g.offsets g.stored.long d within;
         addends = column_filled g.addends g.stored.long d (omega (arith, within, f.same));
       }
-
-pub ruleset stores = (store_begin, store_same, store_same_2, store_bad, store_in, store_in_2, store_scaled, store_more, store_end, rules)
 
 -- ---- from the head on
 module _ (strict : Bool) (s : List ℕ) where
@@ -146,13 +135,9 @@ module _ (strict : Bool) (s : List ℕ) where
       pub fill_is : {os' : List ℕ} {us' : List ℤ} → Filled (body strict s n first) os us os' us' → Filled (decode strict s) os us os' us'
       fill_is h = rw all h
 
-pub ruleset fills = (scan_is, fill_not, fill_able, fill_is, rules)
-
 -- ---- the limit in front
 pub check_over : (strict : Bool) (s : List ℕ) → input_limit < length s → err_at Limit 0 ≡ found_of (decode strict s)
 check_over strict s h = sym (found_refused (decode_over strict s h))
 
 pub check_in : (strict : Bool) (s : List ℕ) {r : Result ℕ Refused} → length s ≤ input_limit → r ≡ found_of (parse strict s) → r ≡ found_of (decode strict s)
 check_in strict s h e = e ∙ ap found_of (sym (decode_in strict s h))
-
-pub ruleset checks = (check_over, check_in, rules)

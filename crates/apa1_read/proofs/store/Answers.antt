@@ -1,11 +1,11 @@
 use mir.Syntax.{w64}
 use mir.Facts.{to_z-of_z}
 use borrow.Author.Rules.{rules}
-use Rattle.apa1_read.proofs.PassNeeds.{stores, store_bad, store_in, store_in_2, store_more, store_end}
+use Rattle.apa1_read.proofs.PassNeeds.{store_begin, store_bad, store_in, store_in_2, store_more, store_end}
 use Rattle.apa1_read.proofs.store.Goals as goal
 
 pub loop-i-init : goal.loop-i-init
-loop-i-init c = search stores
+loop-i-init c = store_begin _ _ _ _ _ _
 
 pub returns-in_default : goal.returns-in_default
 returns-in_default c = store_bad c.requires c.loop-i.invariant c.loop-i-test.true c.in_default.ensures

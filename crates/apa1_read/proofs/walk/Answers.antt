@@ -1,10 +1,10 @@
 use mathlib.Core.Path.{◌∙◌}
 use Rattle.answer.specs.Outcome.Laws.{handed_on}
-use Rattle.apa1_read.proofs.PassNeeds.{walks, walk_more, walk_bad}
+use Rattle.apa1_read.proofs.PassNeeds.{walk_begin, walk_more, walk_bad, walk_end, walk_over}
 use Rattle.apa1_read.proofs.walk.Goals as goal
 
 pub loop-init : goal.loop-init
-loop-init c = search walks
+loop-init c = walk_begin _ _ _ _
 
 pub returns-in_err-at : goal.returns-in_err-at
 returns-in_err-at c =
@@ -14,7 +14,7 @@ pub loop-preserved : goal.loop-preserved
 loop-preserved c = walk_more c.loop.invariant c.loop-test.true c.in_ok-at.ensures
 
 pub returns-then-at-s : goal.returns-then-at-s
-returns-then-at-s c = search walks
+returns-then-at-s c = walk_over c.loop.invariant c.loop-test.false c.if-at-s.true
 
 pub returns : goal.returns
-returns c = search walks
+returns c = walk_end c.loop.invariant c.loop-test.false c.if-at-s.false
