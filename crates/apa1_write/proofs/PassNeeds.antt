@@ -1,7 +1,7 @@
 -- What the writer's passes go by, as the code asks it. A loop has the addend before, w.
 -- Assumes nothing.
 use Prim.Native.Nat.{ℕ, ◌+◌, ◌^◌, ◌≤◌, ◌<◌}
-use mathlib.Core.Path.{◌≡◌, refl, ap, sym, ◌∙◌}
+use mathlib.Core.Path.{◌≡◌, refl, ap, ap₂, sym, ◌∙◌}
 use mathlib.Core.List.{List, ◌∷◌}
 use native.Mathlib.Omega.{arith}
 use lib.IntN.{ℤ, pos}
@@ -31,10 +31,14 @@ use Rattle.answer.specs.Outcome.{err_at}
 abbrev Bits : ℤ → ℤ
 Bits z = to_z w64 (of_z w64 z)
 
+-- of two columns side by side, the pair x and a at an index
+abbrev pub Turn : List ℕ → List ℤ → ℕ → ℕ → ℤ → Type 0
+Turn os us i x a = (i < length os) × (i < length us) × ((d : ℕ) → x ≡ get_or os i d) × ((d : ℤ) → a ≡ get_or us i d)
+
 -- the record at an index, as the loop has it
-module _ (os : List ℕ) (us : List ℤ) (same : length os ≡ length us) (i : ℕ) (h : i < length os) (m : mag (get_or us i (pos 0)) < 2 ^ 63) where
-  here : drop i (rows os us) ≡ row (get_or os i 0) (Bits (get_or us i (pos 0))) ∷ drop (i + 1) (rows os us)
-  here = rows_from_law os us same i h ∙ ap (λ (a : ℤ). row (get_or os i 0) a ∷ drop (i + 1) (rows os us)) (sym (to_z-of_z {w = w64} (sfits_of m)))
+here : (os : List ℕ) (us : List ℤ) (same : length os ≡ length us) {i x : ℕ} {a : ℤ} → Turn os us i x a → mag a < 2 ^ 63 → drop i (rows os us) ≡ row x (Bits a) ∷ drop (i + 1) (rows os us)
+here os us same {i} t m =
+    rows_from_law os us same i t.0 ∙ ap₂ (λ (y : ℕ) (b : ℤ). row y b ∷ drop (i + 1) (rows os us)) (sym (t.2 0)) (sym (t.3 (pos 0)) ∙ sym (to_z-of_z {w = w64} (sfits_of m)))
 
 -- ---- the first pass
 -- the records before index i; of an addend its range is known where it was read
@@ -57,16 +61,16 @@ size_begin {os} {us} l e =
     }
 
 module _ {os : List ℕ} {us : List ℤ} {total o : ℕ} {w : ℤ} {i : ℕ} (l : Listed os us) (g : Sizing os us total o w i) where
-  module _ {r : ℕ} (h : i < length os) (m : mag (get_or us i (pos 0)) < 2 ^ 63) (e : r ≡ length (entry_bytes (row o w) (row (get_or os i 0) (Bits (get_or us i (pos 0)))))) where
+  module _ {x r : ℕ} {a : ℤ} (t : Turn os us i x a) (m : mag a < 2 ^ 63) (e : r ≡ length (entry_bytes (row o w) (row x (Bits a)))) where
     pub size_sum : Fits w64 (total + r)
-    size_sum = record { fits = omega (arith, g.sized.few, l.few, list_small, entry_most (row o w) (row (get_or os i 0) (Bits (get_or us i (pos 0))))) }
+    size_sum = record { fits = omega (arith, t.0, g.sized.few, l.few, list_small, entry_most (row o w) (row x (Bits a))) }
 
-    pub size_more : Sizing os us (total + r) (get_or os i 0) (Bits (get_or us i (pos 0))) (i + 1)
+    pub size_more : Sizing os us (total + r) x (Bits a) (i + 1)
     size_more =
         record {
-          sized = rw e (sized_more g.sized (here os us l.same i h m) refl (entry_most (row o w) (row (get_or os i 0) (Bits (get_or us i (pos 0))))));
-          within = omega arith;
-          small = below_more (λ (j : ℕ). mag (get_or us j (pos 0)) < 2 ^ 63) i g.small m;
+          sized = rw e (sized_more g.sized (here os us l.same t m) refl (entry_most (row o w) (row x (Bits a))));
+          within = omega (arith, t.0);
+          small = below_more (λ (j : ℕ). mag (get_or us j (pos 0)) < 2 ^ 63) i g.small (rw (← t.3) m);
         }
 
   pub size_end : length os ≤ i → ((j : ℕ) → Fits w64 (get_or os j 0)) → Measures os us (Ok total)
@@ -103,13 +107,12 @@ module _ {os : List ℕ} {us : List ℤ} {old now : List ℕ} {first at o : ℕ}
   pub put_same : length now ≡ length old
   put_same = putting_same f.fits g.putting
 
-  module _ (h : i < length os) (m : mag (get_or us i (pos 0)) < 2 ^ 63) where
-    pub put_room : at + length (entry_bytes (row o w) (row (get_or os i 0) (Bits (get_or us i (pos 0))))) ≤ length now
-    put_room = putting_room f.fits g.putting (here os us f.same i h m) refl
+  module _ {x : ℕ} {a : ℤ} (t : Turn os us i x a) (m : mag a < 2 ^ 63) where
+    pub put_room : at + length (entry_bytes (row o w) (row x (Bits a))) ≤ length now
+    put_room = putting_room f.fits g.putting (here os us f.same t m) refl
 
-    pub put_more : {new : List ℕ} {past : ℕ} → Written now new at past (entry_bytes (row o w) (row (get_or os i 0) (Bits (get_or us i (pos 0)))))
-        → Filling os us old new first past (get_or os i 0) (Bits (get_or us i (pos 0))) (i + 1)
-    put_more v = record { putting = putting_more f.fits g.putting (here os us f.same i h m) refl v }
+    pub put_more : {new : List ℕ} {past : ℕ} → Written now new at past (entry_bytes (row o w) (row x (Bits a))) → Filling os us old new first past x (Bits a) (i + 1)
+    put_more v = record { putting = putting_more f.fits g.putting (here os us f.same t m) refl v }
 
   pub put_end : length os ≤ i → Puts (body os us) old now first
   put_end h = putting_end f.fits g.putting (omega (arith, rows_length os us f.same))
