@@ -47,9 +47,6 @@ pub record Sizing (os : List ℕ) (us : List ℤ) (total o : ℕ) (w : ℤ) (i :
   pub within : i ≤ length os
   pub small : (j : ℕ) → j < i → mag (get_or us j (pos 0)) < 2 ^ 63
 
-pub size_few : {os : List ℕ} {us : List ℤ} → Listed os us → length os < 2 ^ 63
-size_few l = omega (arith, l.few, list_small)
-
 pub size_begin : {os : List ℕ} {us : List ℤ} {total : ℕ} → Listed os us → total ≡ length (head_of (length os)) → Sizing os us total 0 (pos 0) 0
 size_begin {os} {us} l e =
     let n = rows_length os us l.same in
@@ -81,16 +78,12 @@ module _ {os : List ℕ} {us : List ℤ} {total o : ℕ} {w : ℤ} {i : ℕ} (l 
         back = λ strict b f. decode_encode strict (rows os us) f (rows_fine os us l.same (λ j k. ((wide j).fits, g.small j (omega arith))));
       }
 
-pub ruleset sizes = (size_few, size_begin, size_sum, size_more, size_end, rules)
-
 -- ---- the limit in front
 module _ {os : List ℕ} {us : List ℤ} (same : length os ≡ length us) where
   pub measure_over : list_limit < length os → Measures os us (err_at Limit 0)
   measure_over h =
       let e = encode_over (rows os us) (omega (arith, rows_length os us same)) in
       record { found = sym (found_refused e); back = λ strict b f. absurd (accepted_refused f e) }
-
-pub ruleset measures = (measure_over, rules)
 
 -- ---- the second pass
 abbrev pub body : List ℕ → List ℤ → Outcome (List ℕ)
@@ -104,9 +97,6 @@ pub put_begin : (os : List ℕ) (us : List ℤ) (old : List ℕ) (at : ℕ) → 
 put_begin os us old at = record { putting = putting_none put_of behind (rows os us) old at start }
 
 module _ {os : List ℕ} {us : List ℤ} {old now : List ℕ} {first at o : ℕ} {w : ℤ} {i : ℕ} (f : Puttable (body os us) os us old first) (g : Filling os us old now first at o w i) where
-  pub put_same : length now ≡ length old
-  put_same = putting_same f.fits g.putting
-
   module _ {x : ℕ} {a : ℤ} (t : Turn os us i x a) (m : mag a < 2 ^ 63) where
     pub put_room : at + length (entry_bytes (row o w) (row x (Bits a))) ≤ length now
     put_room = putting_room f.fits g.putting (here os us f.same t m) refl
@@ -116,8 +106,6 @@ module _ {os : List ℕ} {us : List ℤ} {old now : List ℕ} {first at o : ℕ}
 
   pub put_end : length os ≤ i → Puts (body os us) old now first
   put_end h = putting_end f.fits g.putting (omega (arith, rows_length os us f.same))
-
-pub ruleset puttings = (put_begin, put_same, put_room, put_more, put_end, rules)
 
 -- ---- the head, and then the records
 module _ (os : List ℕ) (us : List ℤ) (old : List ℕ) (f : Puttable (encode (rows os us)) os us old 0) where

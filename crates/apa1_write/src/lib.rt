@@ -1,7 +1,7 @@
 // The writer of APA1 tables: a first pass that counts the table's bytes, and a second that puts them.
 #![tactic(auto)]
 
-ghost use Rattle.std.specs.Prelude.{Ok, ◌≡◌, ◌+◌, ◌^◌, ◌≤◌, ◌<◌, length};
+ghost use Rattle.std.specs.Prelude.{◌≡◌, ◌+◌, ◌^◌, ◌≤◌, ◌<◌, length, Ok};
 ghost use Rattle.records.specs.Writing.{puts, Puts};
 ghost use Rattle.apa1_table.specs.Table.{row, start, rows, entry_bytes, put_of, behind, head_of, encode};
 ghost use Rattle.apa1_table.specs.Inner.{Listed, Measures, Puttable};
