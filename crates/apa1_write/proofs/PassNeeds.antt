@@ -19,7 +19,7 @@ use Rattle.answer.specs.Outcome.Laws.{accepted_refused, found_refused}
 use Rattle.answer.specs.Written.{Written}
 use Rattle.records.specs.Writing as Writing
 use Rattle.records.specs.Writing.{puts, Puts}
-use Rattle.records.proofs.Writing.{Sized, sized_none, sized_more, sized_end, Putting, putting_none, putting_same, putting_room, putting_more, putting_end, head_room, body_room, both_written}
+use Rattle.records.proofs.Writing.{Sized, sized_none, sized_more, sized_end, Putting, putting_none, putting_room, putting_more, putting_end, head_room, body_room, both_written}
 use Rattle.apa1_table.specs.Table.{row, start, rows, entry_bytes, put_of, behind, head_of, build, encode}
 use Rattle.apa1_table.specs.Table.Laws.{rows_length, rows_from_law, build_is, encode_over, encode_in, encode_accepted, entry_most, head_most}
 use Rattle.apa1_table.proofs.RoundTrip.{decode_encode, rows_fine}
