@@ -3,7 +3,7 @@
 
 ghost use Rattle.apa1_table.specs.Contract.{Reads, Writes};
 
-use answer::{Answer, Found, Refusal};
+use answer::{Answer, Refusal};
 
 // The records of a table, into a column of offsets and one of addends. Strictly a padded number is refused.
 pub fn read(strict: bool, table: &[u8], offsets: &mut [u64], addends: &mut [i64]) -> Answer
@@ -13,8 +13,8 @@ pub fn read(strict: bool, table: &[u8], offsets: &mut [u64], addends: &mut [i64]
         return answer::refuse(Refusal::Columns, 0);
     }
     match apa1_read::check(strict, table) {
-        Found::Refused(why, place) => answer::refuse(why, place),
-        Found::Count(count) => {
+        Err(refused) => refused.into(),
+        Ok(count) => {
             if (offsets.len() as u64) < count {
                 return answer::short_of(count);
             }
@@ -32,8 +32,8 @@ pub fn write(offsets: &[u64], addends: &[i64], table: &mut [u8]) -> Answer
         return answer::refuse(Refusal::Columns, 0);
     }
     match apa1_write::measure(offsets, addends) {
-        Found::Refused(why, place) => answer::refuse(why, place),
-        Found::Count(need) => {
+        Err(refused) => refused.into(),
+        Ok(need) => {
             if (table.len() as u64) < need {
                 return answer::short_of(need);
             }

@@ -4,160 +4,125 @@
 
 ghost use Rattle.std.specs.Prelude.{◌≡◌, false, length};
 ghost use Rattle.answer.specs.Outcome.{found_of};
-ghost use Rattle.records.specs.Identifier.{starts_with};
 ghost use Rattle.records.specs.Reading.{records};
 ghost use Rattle.leb128.specs.Number.{read_signed};
-ghost use Rattle.apa1_table.specs.Table.{row, identifier, start, step_at, plain, head_at, parse, decode};
+ghost use Rattle.apa1_table.specs.Table.{row, start, step_at, plain, head_at, parse, decode};
 ghost use Rattle.apa1_table.specs.Contract.{Filled};
 ghost use Rattle.apa1_table.specs.Inner.{Fillable};
 ghost use Rattle.apa1_read.specs.Inner.{entry_step, EndsRecord, Skips};
 
-use answer::{Found, INPUT_LIMIT, Refusal};
-use leb128::{Signed, Unsigned};
+use answer::{INPUT_LIMIT, Refusal, Refused};
 
 // A record with the place past it.
 #[derive(Clone, Copy)]
-pub enum Entry {
-    Record(u64, i64, usize),
-    Refused(Refusal, usize),
+pub struct Entry {
+    pub offset: u64,
+    pub addend: i64,
+    pub past: usize,
 }
 
 // The record at a place, read laxly, after one with this offset and this addend.
-fn entry_at(s: &[u8], at: usize, offset: u64, addend: i64) -> Entry
+fn entry_at(s: &[u8], at: usize, offset: u64, addend: i64) -> Result<Entry, Refused>
     ensures { entry_step result ≡ step_at false s.now at (row offset addend) }
 {
-    let first = leb128::read_signed(false, s, at, 64);
-    let Signed::Value(d, next) = first else {
-        let cause = first.cause();
-        let why = cause.why;
-        return Entry::Refused(why, cause.place);
-    };
-    let second = leb128::read_signed(false, s, next, 64);
-    let Signed::Value(e, past) = second else {
-        let cause = second.cause();
-        let why = cause.why;
-        return Entry::Refused(why, cause.place);
-    };
-    Entry::Record(
-        wrap::moved(64, offset, d),
-        wrap::add_signed(64, addend, e),
+    let (d, next) = leb128::read_signed(false, s, at, 64)?;
+    let (e, past) = leb128::read_signed(false, s, next, 64)?;
+    Ok(Entry {
+        offset: wrap::moved(64, offset, d),
+        addend: wrap::add_signed(64, addend, e),
         past,
-    )
+    })
 }
 
-// The second number of the record at a place, whose next place is past the record, or the refusal of either.
-fn skip_by_numbers(strict: bool, s: &[u8], at: usize) -> Signed
+// The place past the record at a place, or the refusal of either of its numbers.
+fn skip_by_numbers(strict: bool, s: &[u8], at: usize) -> Result<usize, Refused>
     ensures { Skips strict s.now at result }
 {
-    let first = leb128::read_signed(strict, s, at, 64);
-    let Signed::Value(_, next) = first else {
-        return first;
-    };
-    leb128::read_signed(strict, s, next, 64)
+    let (_, next) = leb128::read_signed(strict, s, at, 64)?;
+    let (_, past) = leb128::read_signed(strict, s, next, 64)?;
+    Ok(past)
 }
 
-// The place past a record whose differences are plainly accepted, or 0.
-fn end_at(strict: bool, s: &[u8], at: usize) -> usize
+// The place past a record whose differences are plainly accepted.
+fn end_at(strict: bool, s: &[u8], at: usize) -> Option<usize>
     ensures { EndsRecord strict s.now at result }
 {
-    let next = leb128::end_number(strict, s, at, 64);
-    if next < 1 {
-        return 0;
-    }
+    let next = leb128::end_number(strict, s, at, 64)?;
     leb128::end_number(strict, s, next, 64)
 }
 
-// The same as an answer: any other record is read number by number.
-fn skip_at(strict: bool, s: &[u8], at: usize) -> Signed
+// The same of any record: one that is not plainly accepted is read number by number.
+fn skip_at(strict: bool, s: &[u8], at: usize) -> Result<usize, Refused>
     ensures { Skips strict s.now at result }
 {
-    let past = end_at(strict, s, at);
-    if 0 < past {
-        return Signed::Value(0, past);
+    match end_at(strict, s, at) {
+        Some(past) => Ok(past),
+        None => skip_by_numbers(strict, s, at),
     }
-    skip_by_numbers(strict, s, at)
-}
-
-// Whether a table has APA1's identifier.
-fn identified(s: &[u8]) -> bool
-    ensures { result ≡ starts_with identifier s.now }
-{
-    records::starts_with(s, b"APA1")
 }
 
 // The count of the records, which is not negative, with the place of the first.
-fn count_at(strict: bool, s: &[u8]) -> Unsigned
+fn count_at(strict: bool, s: &[u8]) -> Result<(u64, usize), Refused>
     ensures { result ≡ plain (read_signed strict 64 s.now 4) }
 {
-    let number = leb128::read_signed(strict, s, 4, 64);
-    let Signed::Value(n, first) = number else {
-        let cause = number.cause();
-        let why = cause.why;
-        return Unsigned::Refused(why, cause.place);
-    };
-    Unsigned::Value(leb128::magnitude(n), first)
+    let (n, first) = leb128::read_signed(strict, s, 4, 64)?;
+    Ok((leb128::magnitude(n), first))
 }
 
 // The identifier and the count. A negative count is refused before a padded one.
-fn head_of(strict: bool, s: &[u8]) -> Unsigned
+fn head_of(strict: bool, s: &[u8]) -> Result<(u64, usize), Refused>
     ensures { result ≡ head_at strict s.now }
 {
-    if !identified(s) {
-        return Unsigned::Refused(Refusal::Identifier, 0);
+    if !records::starts_with(s, b"APA1") {
+        return Err(Refused {
+            why: Refusal::Identifier,
+            place: 0,
+        });
     }
-    let lax = leb128::read_signed(false, s, 4, 64);
-    let Signed::Value(n, _) = lax else {
-        let cause = lax.cause();
-        let why = cause.why;
-        return Unsigned::Refused(why, cause.place);
-    };
+    let (n, _) = leb128::read_signed(false, s, 4, 64)?;
     if leb128::is_negative(n) {
-        return Unsigned::Refused(Refusal::Width, 4);
+        return Err(Refused {
+            why: Refusal::Width,
+            place: 4,
+        });
     }
     count_at(strict, s)
 }
 
 // The first pass over so many records from a place on: their count, or the refusal. It needs no sums: none is refused.
-fn walk(strict: bool, s: &[u8], count: u64, first: usize) -> Found
+fn walk(strict: bool, s: &[u8], count: u64, first: usize) -> Result<u64, Refused>
     ensures { result ≡ found_of (records (step_at strict s.now) (length s.now) count first start) }
 {
-    let mut left = count;
     let mut at = first;
-    while 0 < left {
-        let skipped = skip_at(strict, s, at);
-        let Signed::Value(_, past) = skipped else {
-            let cause = skipped.cause();
-            let why = cause.why;
-            return Found::Refused(why, cause.place as u64);
-        };
-        at = past;
-        left -= 1;
+    for _ in 0..count {
+        at = skip_at(strict, s, at)?;
     }
     if at < s.len() {
-        return Found::Refused(Refusal::Trailing, at as u64);
+        return Err(Refused {
+            why: Refusal::Trailing,
+            place: at as u64,
+        });
     }
-    Found::Count(count)
+    Ok(count)
 }
 
 // The first pass over a table, however long it is.
-fn scan(strict: bool, s: &[u8]) -> Found
+fn scan(strict: bool, s: &[u8]) -> Result<u64, Refused>
     ensures { result ≡ found_of (parse strict s.now) }
 {
-    let head = head_of(strict, s);
-    let Unsigned::Value(count, first) = head else {
-        let cause = head.cause();
-        let why = cause.why;
-        return Found::Refused(why, cause.place as u64);
-    };
+    let (count, first) = head_of(strict, s)?;
     walk(strict, s, count, first)
 }
 
 // The count of the records of a table, or the refusal: first that of a table over its limit.
-pub fn check(strict: bool, s: &[u8]) -> Found
+pub fn check(strict: bool, s: &[u8]) -> Result<u64, Refused>
     ensures { result ≡ found_of (decode strict s.now) }
 {
     if INPUT_LIMIT < s.len() {
-        return Found::Refused(Refusal::Limit, 0);
+        return Err(Refused {
+            why: Refusal::Limit,
+            place: 0,
+        });
     }
     scan(strict, s)
 }
@@ -167,26 +132,18 @@ fn store(s: &[u8], count: u64, first: usize, offsets: &mut [u64], addends: &mut 
     requires { Fillable (records (step_at false s.now) (length s.now) count first start) offsets.old addends.old }
     ensures { Filled (records (step_at false s.now) (length s.now) count first start) offsets.old addends.old offsets.new addends.new }
 {
-    let mut rest = count;
     let mut from = first;
     let mut offset: u64 = 0;
     let mut addend: i64 = 0;
-    let mut i: usize = 0;
-    while 0 < rest {
-        match entry_at(s, from, offset, addend) {
-            Entry::Refused(_, _) => {
-                return;
-            }
-            Entry::Record(o, a, past) => {
-                offset = o;
-                addend = a;
-                offsets[i] = offset;
-                addends[i] = addend;
-                from = past;
-                rest -= 1;
-                i += 1;
-            }
-        }
+    for i in 0..count as usize {
+        let Ok(entry) = entry_at(s, from, offset, addend) else {
+            return;
+        };
+        offset = entry.offset;
+        addend = entry.addend;
+        offsets[i] = offset;
+        addends[i] = addend;
+        from = entry.past;
     }
 }
 
@@ -195,8 +152,7 @@ pub fn fill(s: &[u8], offsets: &mut [u64], addends: &mut [i64])
     requires { Fillable (decode false s.now) offsets.old addends.old }
     ensures { Filled (decode false s.now) offsets.old addends.old offsets.new addends.new }
 {
-    let head = head_of(false, s);
-    let Unsigned::Value(count, first) = head else {
+    let Ok((count, first)) = head_of(false, s) else {
         return;
     };
     store(s, count, first, offsets, addends);

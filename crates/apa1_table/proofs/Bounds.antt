@@ -28,12 +28,12 @@ module _ (strict : Bool) (s : List ℕ) where
   -- a record has at least two bytes
   second_moves : (prev : Row) (d : ℤ) (at next : ℕ) → at < next → (u : Signed) → read_signed strict 64 s next ≡ u → Moves 2 (length s) at (second_of prev d u)
   unfolding second_of
-  second_moves prev d at next h (Ok (z , past)) e = let v = signed_value strict 64 s next z past e in (omega (arith, v.1), v.2)
+  second_moves prev d at next h (Ok (z, past)) e = let v = signed_value strict 64 s next z past e in (omega (arith, v.1), v.2)
   second_moves prev d at next h (Err x) e = tt
 
   first_moves : (prev : Row) (at : ℕ) (u : Signed) → read_signed strict 64 s at ≡ u → Moves 2 (length s) at (first_of strict s prev u)
   unfolding first_of
-  first_moves prev at (Ok (d , next)) e = second_moves prev d at next (signed_value strict 64 s at d next e).1 (read_signed strict 64 s next) refl
+  first_moves prev at (Ok (d, next)) e = second_moves prev d at next (signed_value strict 64 s at d next e).1 (read_signed strict 64 s next) refl
   first_moves prev at (Err x) e = tt
 
   moves : (at : ℕ) (prev : Row) → Moves 2 (length s) at (step_at strict s at prev)
@@ -42,13 +42,13 @@ module _ (strict : Bool) (s : List ℕ) where
 
   plain_ends : (strict : Bool) (u : Signed) → read_signed strict 64 s (length identifier) ≡ u → Ends (length s) (plain u)
   unfolding plain
-  plain_ends strict (Ok (z , next)) e = (signed_value strict 64 s (length identifier) z next e).2
+  plain_ends strict (Ok (z, next)) e = (signed_value strict 64 s (length identifier) z next e).2
   plain_ends strict (Err x) e = tt
 
   count_ends : (strict : Bool) (u : Signed) → Ends (length s) (count_of u (read_signed strict 64 s (length identifier)))
   unfolding count_of
-  count_ends strict (Ok ((pos n) , next)) = plain_ends strict (read_signed strict 64 s (length identifier)) refl
-  count_ends strict (Ok ((negsuc n) , next)) = tt
+  count_ends strict (Ok ((pos n), next)) = plain_ends strict (read_signed strict 64 s (length identifier)) refl
+  count_ends strict (Ok ((negsuc n), next)) = tt
   count_ends strict (Err e) = tt
 
   head_ends : Ends (length s) (head_at strict s)

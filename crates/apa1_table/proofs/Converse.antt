@@ -13,6 +13,7 @@ use Rattle.answer.specs.declared.Refusal.TheVariants.{Identifier}
 use Rattle.answer.specs.Outcome.{accepted, list_limit}
 use Rattle.leb128.specs.Number.{read_signed, short_signed}
 use Rattle.leb128.proofs.Setting.{lax_signed_law, read_lax_signed, signed_value}
+use Rattle.leb128.proofs.Reading.{ok_parts}
 use Rattle.leb128.proofs.Strict.{strict_signed}
 use Rattle.records.specs.Columns.{zipped}
 use Rattle.records.specs.Columns.Laws.{zipped_map}
@@ -37,7 +38,7 @@ module _ (s : List ℕ) (bytes : Bytes s) where
   from_second : (at next past : ℕ) (prev x now : Row) (d : ℤ) (u : Signed) → read_signed true 64 s at ≡ ok_at d next → read_signed true 64 s next ≡ u → second_of prev d u ≡ one x past now
       → AsWritten at prev x past now
   unfolding second_of
-  from_second at next past prev x now d (Ok (a , p)) e f g =
+  from_second at next past prev x now d (Ok (a, p)) e f g =
       let w : 0 < 64 = omega arith in
       let is : row (residue 64 (pos prev.offset +ℤ d)) (wrapped 64 (prev.addend +ℤ a)) ≡ x = cc in
       let q : p ≡ past = cc in
@@ -57,7 +58,7 @@ module _ (s : List ℕ) (bytes : Bytes s) where
 
   from_first : (at past : ℕ) (prev x now : Row) (u : Signed) → read_signed true 64 s at ≡ u → first_of true s prev u ≡ one x past now → AsWritten at prev x past now
   unfolding first_of
-  from_first at past prev x now (Ok (d , next)) e g = from_second at next past prev x now d (read_signed true 64 s next) e refl g
+  from_first at past prev x now (Ok (d, next)) e g = from_second at next past prev x now d (read_signed true 64 s next) e refl g
   from_first at past prev x now (Err bad) e g = let z : ◌≡◌ {A = ℕ} 0 1 = cc in absurd (omega arith)
 
   record_forth : (at : ℕ) (prev x : Row) (past : ℕ) (now : Row) → Unit {0} → step_at true s at prev ≡ one x past now → AsWritten at prev x past now
@@ -68,14 +69,13 @@ module _ (s : List ℕ) (bytes : Bytes s) where
   count_forth : {n first : ℕ} (u v : Signed) → read_signed false 64 s (length identifier) ≡ u → read_signed true 64 s (length identifier) ≡ v → count_of u v ≡ ok_at n first
       → read_signed true 64 s (length identifier) ≡ ok_at (pos n) first
   unfolding count_of plain
-  count_forth {n} {first} (Ok ((pos m) , p)) (Ok (z , q)) e f g =
+  count_forth {n} {first} (Ok ((pos m), p)) (Ok (z, q)) e f g =
       let l : ok_at (pos m) p ≡ ok_at z q = sym e ∙ lax_signed_law 64 s (length identifier) ∙ read_lax_signed true 64 s (length identifier) f in
-      let h : mag z ≡ n = cc in
-      let k : pos m ≡ z = cc in
-      let o : q ≡ first = cc in
+      let (k, _) = ok_parts l in
+      let (h, o) = ok_parts {v = mag z} {w = n} {n = q} {m = first} g in
       f ∙ ap₂ ok_at (sym k ∙ ap pos (ap mag k ∙ h)) o
-  count_forth (Ok ((pos m) , p)) (Err x) e f g = let z : ◌≡◌ {A = ℕ} 0 1 = cc in absurd (omega arith)
-  count_forth (Ok ((negsuc m) , p)) v e f g = let z : ◌≡◌ {A = ℕ} 0 1 = cc in absurd (omega arith)
+  count_forth (Ok ((pos m), p)) (Err x) e f g = let z : ◌≡◌ {A = ℕ} 0 1 = cc in absurd (omega arith)
+  count_forth (Ok ((negsuc m), p)) v e f g = let z : ◌≡◌ {A = ℕ} 0 1 = cc in absurd (omega arith)
   count_forth (Err x) v e f g = let z : ◌≡◌ {A = ℕ} 0 1 = cc in absurd (omega arith)
 
   head_forth : {n first : ℕ} → head_at true s ≡ ok_at n first → s ≡ head_of n ++ drop first s

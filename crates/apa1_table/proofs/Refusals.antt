@@ -20,12 +20,12 @@ module _ (P : Said) (strict : Bool) (s : List ℕ) (named : P Identifier 0) (num
     (negative : (n next : ℕ) → read_signed false 64 s (length identifier) ≡ ok_at (negsuc n) next → P Width (length identifier)) (over : (at : ℕ) → at < length s → P Trailing at) where
   second : (prev : Row) (d : ℤ) (u : Signed) → OfSigned P u → OfStep P (second_of prev d u)
   unfolding second_of
-  second prev d (Ok (e , past)) h = tt
+  second prev d (Ok (e, past)) h = tt
   second prev d (Err e) h = h
 
   first : (prev : Row) (u : Signed) → OfSigned P u → OfStep P (first_of strict s prev u)
   unfolding first_of
-  first prev (Ok (d , next)) h = second prev d (read_signed strict 64 s next) (number strict next)
+  first prev (Ok (d, next)) h = second prev d (read_signed strict 64 s next) (number strict next)
   first prev (Err e) h = h
 
   step : (at : ℕ) (prev : Row) → OfStep P (step_at strict s at prev)
@@ -34,13 +34,13 @@ module _ (P : Said) (strict : Bool) (s : List ℕ) (named : P Identifier 0) (num
 
   plains : (u : Signed) → OfSigned P u → OfUnsigned P (plain u)
   unfolding plain
-  plains (Ok (z , first)) h = tt
+  plains (Ok (z, first)) h = tt
   plains (Err e) h = h
 
   counts : (u v : Signed) → read_signed false 64 s (length identifier) ≡ u → OfSigned P u → OfSigned P v → OfUnsigned P (count_of u v)
   unfolding count_of
-  counts (Ok ((pos n) , next)) v e h k = plains v k
-  counts (Ok ((negsuc n) , next)) v e h k = negative n next e
+  counts (Ok ((pos n), next)) v e h k = plains v k
+  counts (Ok ((negsuc n), next)) v e h k = negative n next e
   counts (Err x) v e h k = h
 
   head : OfUnsigned P (head_at strict s)

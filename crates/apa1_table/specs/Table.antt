@@ -37,14 +37,14 @@ identifier = 0x41 ∷ 0x50 ∷ 0x41 ∷ 0x31 ∷ []
 
 -- the record whose differences are d and the number given, after the record before it: both sums wrap at 64 bits
 unfoldable pub second_of : Row → ℤ → Signed → Step Row Row
-second_of prev d (Ok (e , past)) =
+second_of prev d (Ok (e, past)) =
     let x : Row = row (residue 64 (pos prev.offset +ℤ d)) (wrapped 64 (prev.addend +ℤ e)) in
     one x past x
 second_of prev d (Err e) = none e.why e.place
 
 -- the same from the number that is the offset's difference on
 unfoldable pub first_of : Bool → List ℕ → Row → Signed → Step Row Row
-first_of strict s prev (Ok (d , next)) = second_of prev d (read_signed strict 64 s next)
+first_of strict s prev (Ok (d, next)) = second_of prev d (read_signed strict 64 s next)
 first_of strict s prev (Err e) = none e.why e.place
 
 -- the record at a place: two signed numbers of 64 bits, the offset's difference and the addend's
@@ -53,13 +53,13 @@ step_at strict s at prev = first_of strict s prev (read_signed strict 64 s at)
 
 -- a signed number that is not negative, as a count
 unfoldable pub plain : Signed → Unsigned
-plain (Ok (z , first)) = ok_at (mag z) first
+plain (Ok (z, first)) = ok_at (mag z) first
 plain (Err e) = Err e
 
 -- a count, by lax reading and by the setting: it may not be negative, which is refused at its first byte, also where the number is padded
 unfoldable pub count_of : Signed → Signed → Unsigned
-count_of (Ok ((pos n) , first)) u = plain u
-count_of (Ok ((negsuc n) , first)) u = err_at Width (length identifier)
+count_of (Ok ((pos n), first)) u = plain u
+count_of (Ok ((negsuc n), first)) u = err_at Width (length identifier)
 count_of (Err e) u = Err e
 
 -- the identifier and the count: a signed number of 64 bits

@@ -1,7 +1,7 @@
 -- What the writer's passes go by, as the code asks it. A loop has the addend before, w.
 -- Assumes nothing.
 use Prim.Native.Nat.{ℕ, ◌+◌, ◌^◌, ◌≤◌, ◌<◌}
-use mathlib.Core.Path.{◌≡◌, refl, ap, sym, ◌∙◌}
+use mathlib.Core.Path.{◌≡◌, refl, ap, ap₂, sym, ◌∙◌}
 use mathlib.Core.List.{List, ◌∷◌}
 use native.Mathlib.Omega.{arith}
 use lib.IntN.{ℤ, pos}
@@ -19,7 +19,7 @@ use Rattle.answer.specs.Outcome.Laws.{accepted_refused, found_refused}
 use Rattle.answer.specs.Written.{Written}
 use Rattle.records.specs.Writing as Writing
 use Rattle.records.specs.Writing.{puts, Puts}
-use Rattle.records.proofs.Writing.{Sized, sized_none, sized_more, sized_end, Putting, putting_none, putting_same, putting_room, putting_more, putting_end, head_room, body_room, both_written}
+use Rattle.records.proofs.Writing.{Sized, sized_none, sized_more, sized_end, Putting, putting_none, putting_room, putting_more, putting_end, head_room, body_room, both_written}
 use Rattle.apa1_table.specs.Table.{row, start, rows, entry_bytes, put_of, behind, head_of, build, encode}
 use Rattle.apa1_table.specs.Table.Laws.{rows_length, rows_from_law, build_is, encode_over, encode_in, encode_accepted, entry_most, head_most}
 use Rattle.apa1_table.proofs.RoundTrip.{decode_encode, rows_fine}
@@ -31,10 +31,14 @@ use Rattle.answer.specs.Outcome.{err_at}
 abbrev Bits : ℤ → ℤ
 Bits z = to_z w64 (of_z w64 z)
 
+-- of two columns side by side, the pair x and a at an index
+abbrev pub Turn : List ℕ → List ℤ → ℕ → ℕ → ℤ → Type 0
+Turn os us i x a = (i < length os) × (i < length us) × ((d : ℕ) → x ≡ get_or os i d) × ((d : ℤ) → a ≡ get_or us i d)
+
 -- the record at an index, as the loop has it
-module _ (os : List ℕ) (us : List ℤ) (same : length os ≡ length us) (i : ℕ) (h : i < length os) (m : mag (get_or us i (pos 0)) < 2 ^ 63) where
-  here : drop i (rows os us) ≡ row (get_or os i 0) (Bits (get_or us i (pos 0))) ∷ drop (i + 1) (rows os us)
-  here = rows_from_law os us same i h ∙ ap (λ (a : ℤ). row (get_or os i 0) a ∷ drop (i + 1) (rows os us)) (sym (to_z-of_z {w = w64} (sfits_of m)))
+here : (os : List ℕ) (us : List ℤ) (same : length os ≡ length us) {i x : ℕ} {a : ℤ} → Turn os us i x a → mag a < 2 ^ 63 → drop i (rows os us) ≡ row x (Bits a) ∷ drop (i + 1) (rows os us)
+here os us same {i} t m =
+    rows_from_law os us same i t.0 ∙ ap₂ (λ (y : ℕ) (b : ℤ). row y b ∷ drop (i + 1) (rows os us)) (sym (t.2 0)) (sym (t.3 (pos 0)) ∙ sym (to_z-of_z {w = w64} (sfits_of m)))
 
 -- ---- the first pass
 -- the records before index i; of an addend its range is known where it was read
@@ -42,9 +46,6 @@ pub record Sizing (os : List ℕ) (us : List ℤ) (total o : ℕ) (w : ℤ) (i :
   pub sized : Sized put_of behind (build (rows os us)) (rows os us) 20 total i (row o w)
   pub within : i ≤ length os
   pub small : (j : ℕ) → j < i → mag (get_or us j (pos 0)) < 2 ^ 63
-
-pub size_few : {os : List ℕ} {us : List ℤ} → Listed os us → length os < 2 ^ 63
-size_few l = omega (arith, l.few, list_small)
 
 pub size_begin : {os : List ℕ} {us : List ℤ} {total : ℕ} → Listed os us → total ≡ length (head_of (length os)) → Sizing os us total 0 (pos 0) 0
 size_begin {os} {us} l e =
@@ -57,16 +58,16 @@ size_begin {os} {us} l e =
     }
 
 module _ {os : List ℕ} {us : List ℤ} {total o : ℕ} {w : ℤ} {i : ℕ} (l : Listed os us) (g : Sizing os us total o w i) where
-  module _ {r : ℕ} (h : i < length os) (m : mag (get_or us i (pos 0)) < 2 ^ 63) (e : r ≡ length (entry_bytes (row o w) (row (get_or os i 0) (Bits (get_or us i (pos 0)))))) where
+  module _ {x r : ℕ} {a : ℤ} (t : Turn os us i x a) (m : mag a < 2 ^ 63) (e : r ≡ length (entry_bytes (row o w) (row x (Bits a)))) where
     pub size_sum : Fits w64 (total + r)
-    size_sum = record { fits = omega (arith, g.sized.few, l.few, list_small, entry_most (row o w) (row (get_or os i 0) (Bits (get_or us i (pos 0))))) }
+    size_sum = record { fits = omega (arith, t.0, g.sized.few, l.few, list_small, entry_most (row o w) (row x (Bits a))) }
 
-    pub size_more : Sizing os us (total + r) (get_or os i 0) (Bits (get_or us i (pos 0))) (i + 1)
+    pub size_more : Sizing os us (total + r) x (Bits a) (i + 1)
     size_more =
         record {
-          sized = rw e (sized_more g.sized (here os us l.same i h m) refl (entry_most (row o w) (row (get_or os i 0) (Bits (get_or us i (pos 0))))));
-          within = omega arith;
-          small = below_more (λ (j : ℕ). mag (get_or us j (pos 0)) < 2 ^ 63) i g.small m;
+          sized = rw e (sized_more g.sized (here os us l.same t m) refl (entry_most (row o w) (row x (Bits a))));
+          within = omega (arith, t.0);
+          small = below_more (λ (j : ℕ). mag (get_or us j (pos 0)) < 2 ^ 63) i g.small (rw (← t.3) m);
         }
 
   pub size_end : length os ≤ i → ((j : ℕ) → Fits w64 (get_or os j 0)) → Measures os us (Ok total)
@@ -77,16 +78,12 @@ module _ {os : List ℕ} {us : List ℤ} {total o : ℕ} {w : ℤ} {i : ℕ} (l 
         back = λ strict b f. decode_encode strict (rows os us) f (rows_fine os us l.same (λ j k. ((wide j).fits, g.small j (omega arith))));
       }
 
-pub ruleset sizes = (size_few, size_begin, size_sum, size_more, size_end, rules)
-
 -- ---- the limit in front
 module _ {os : List ℕ} {us : List ℤ} (same : length os ≡ length us) where
   pub measure_over : list_limit < length os → Measures os us (err_at Limit 0)
   measure_over h =
       let e = encode_over (rows os us) (omega (arith, rows_length os us same)) in
       record { found = sym (found_refused e); back = λ strict b f. absurd (accepted_refused f e) }
-
-pub ruleset measures = (measure_over, rules)
 
 -- ---- the second pass
 abbrev pub body : List ℕ → List ℤ → Outcome (List ℕ)
@@ -100,21 +97,15 @@ pub put_begin : (os : List ℕ) (us : List ℤ) (old : List ℕ) (at : ℕ) → 
 put_begin os us old at = record { putting = putting_none put_of behind (rows os us) old at start }
 
 module _ {os : List ℕ} {us : List ℤ} {old now : List ℕ} {first at o : ℕ} {w : ℤ} {i : ℕ} (f : Puttable (body os us) os us old first) (g : Filling os us old now first at o w i) where
-  pub put_same : length now ≡ length old
-  put_same = putting_same f.fits g.putting
+  module _ {x : ℕ} {a : ℤ} (t : Turn os us i x a) (m : mag a < 2 ^ 63) where
+    pub put_room : at + length (entry_bytes (row o w) (row x (Bits a))) ≤ length now
+    put_room = putting_room f.fits g.putting (here os us f.same t m) refl
 
-  module _ (h : i < length os) (m : mag (get_or us i (pos 0)) < 2 ^ 63) where
-    pub put_room : at + length (entry_bytes (row o w) (row (get_or os i 0) (Bits (get_or us i (pos 0))))) ≤ length now
-    put_room = putting_room f.fits g.putting (here os us f.same i h m) refl
-
-    pub put_more : {new : List ℕ} {past : ℕ} → Written now new at past (entry_bytes (row o w) (row (get_or os i 0) (Bits (get_or us i (pos 0)))))
-        → Filling os us old new first past (get_or os i 0) (Bits (get_or us i (pos 0))) (i + 1)
-    put_more v = record { putting = putting_more f.fits g.putting (here os us f.same i h m) refl v }
+    pub put_more : {new : List ℕ} {past : ℕ} → Written now new at past (entry_bytes (row o w) (row x (Bits a))) → Filling os us old new first past x (Bits a) (i + 1)
+    put_more v = record { putting = putting_more f.fits g.putting (here os us f.same t m) refl v }
 
   pub put_end : length os ≤ i → Puts (body os us) old now first
   put_end h = putting_end f.fits g.putting (omega (arith, rows_length os us f.same))
-
-pub ruleset puttings = (put_begin, put_same, put_room, put_more, put_end, rules)
 
 -- ---- the head, and then the records
 module _ (os : List ℕ) (us : List ℤ) (old : List ℕ) (f : Puttable (encode (rows os us)) os us old 0) where

@@ -1,13 +1,13 @@
 // The writer of APA1 tables: a first pass that counts the table's bytes, and a second that puts them.
 #![tactic(auto)]
 
-ghost use Rattle.std.specs.Prelude.{◌≡◌, ◌+◌, ◌^◌, ◌≤◌, ◌<◌, length};
+ghost use Rattle.std.specs.Prelude.{◌≡◌, ◌+◌, ◌^◌, ◌≤◌, ◌<◌, length, Ok};
 ghost use Rattle.records.specs.Writing.{puts, Puts};
 ghost use Rattle.apa1_table.specs.Table.{row, start, rows, entry_bytes, put_of, behind, head_of, encode};
 ghost use Rattle.apa1_table.specs.Inner.{Listed, Measures, Puttable};
 ghost use Rattle.answer.specs.Written.{Written};
 
-use answer::{Found, LIST_LIMIT, Refusal};
+use answer::{LIST_LIMIT, Refusal, Refused};
 
 // How many bytes a record takes, after one with this offset and this addend.
 fn entry_len(offset: u64, addend: i64, before: u64, base: i64) -> usize
@@ -46,35 +46,33 @@ fn put_head(table: &mut [u8], n: usize) -> usize
 }
 
 // The first pass over a list within its limit. It refuses none.
-fn size(offsets: &[u64], addends: &[i64]) -> Found
+fn size(offsets: &[u64], addends: &[i64]) -> u64
     requires { Listed offsets.now addends.now }
-    ensures { Measures offsets.now addends.now result }
+    ensures { Measures offsets.now addends.now (Ok result) }
 {
-    let n = offsets.len();
-    let mut total = head_len(n);
+    let mut total = head_len(offsets.len());
     let mut before: u64 = 0;
     let mut base: i64 = 0;
-    let mut i: usize = 0;
-    while i < n {
-        let offset = offsets[i];
-        let addend = addends[i];
+    for (&offset, &addend) in offsets.iter().zip(addends) {
         total += entry_len(offset, addend, before, base);
         before = offset;
         base = addend;
-        i += 1;
     }
-    Found::Count(total as u64)
+    total as u64
 }
 
 // How many bytes a table takes, or the refusal: first that of a list over its limit.
-pub fn measure(offsets: &[u64], addends: &[i64]) -> Found
+pub fn measure(offsets: &[u64], addends: &[i64]) -> Result<u64, Refused>
     requires { length offsets.now ≡ length addends.now }
     ensures { Measures offsets.now addends.now result }
 {
     if LIST_LIMIT < offsets.len() {
-        return Found::Refused(Refusal::Limit, 0);
+        return Err(Refused {
+            why: Refusal::Limit,
+            place: 0,
+        });
     }
-    size(offsets, addends)
+    Ok(size(offsets, addends))
 }
 
 // The records' bytes from a place on.
@@ -82,18 +80,13 @@ fn put_all(offsets: &[u64], addends: &[i64], table: &mut [u8], first: usize)
     requires { Puttable (puts put_of behind 0 start (rows offsets.now addends.now)) offsets.now addends.now table.old first }
     ensures { Puts (puts put_of behind 0 start (rows offsets.now addends.now)) table.old table.new first }
 {
-    let n = offsets.len();
     let mut at = first;
     let mut before: u64 = 0;
     let mut base: i64 = 0;
-    let mut j: usize = 0;
-    while j < n {
-        let offset = offsets[j];
-        let addend = addends[j];
+    for (&offset, &addend) in offsets.iter().zip(addends) {
         at = put_entry(&mut *table, at, offset, addend, before, base);
         before = offset;
         base = addend;
-        j += 1;
     }
 }
 

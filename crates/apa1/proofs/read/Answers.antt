@@ -10,8 +10,8 @@ returns-then-offsets-count c = search reading
 pub fill-requires : goal.fill-requires
 fill-requires c = search reading
 
-pub returns-in-Refused : goal.returns-in-Refused
-returns-in-Refused c = search reading
+pub returns-in-Err : goal.returns-in-Err
+returns-in-Err c = search reading
 
 pub returns-else-offsets-count : goal.returns-else-offsets-count
 returns-else-offsets-count c = search reading

@@ -1,11 +1,11 @@
-use Rattle.apa1_read.proofs.PassNeeds.{fills}
+use Rattle.apa1_read.proofs.PassNeeds.{fill_not, fill_able, fill_is}
 use Rattle.apa1_read.proofs.fill.Goals as goal
 
 pub returns-in_default : goal.returns-in_default
-returns-in_default c = search fills
+returns-in_default c = fill_not _ _ c.requires c.in_default.ensures
 
 pub store-requires : goal.store-requires
-store-requires c = search fills
+store-requires c = fill_able _ _ c.requires c.in-Ok.ensures
 
 pub returns : goal.returns
-returns c = search fills
+returns c = fill_is _ _ c.requires c.in-Ok.ensures c.store.ensures

@@ -1,20 +1,12 @@
-use Rattle.apa1_read.proofs.EntryNeeds.{skips}
+use Rattle.answer.specs.Outcome.Laws.{handed_on}
+use Rattle.apa1_read.proofs.EntryNeeds.{skip_not, skip_not_2, skip_is}
 use Rattle.apa1_read.proofs.skip_by_numbers.Goals as goal
 
-pub read_signed-first-requires : goal.read_signed-first-requires
-read_signed-first-requires c = search skips
+pub returns-in_err-next : goal.returns-in_err-next
+returns-in_err-next c = rw (handed_on _ c.in_err-next.field-0.0 c.from_residual.ensures.1) (skip_not _ _ _ c.in_err-next.ensures)
 
-pub enum_known-first : goal.enum_known-first
-enum_known-first c = search skips
-
-pub enum_told-1 : goal.enum_told-1
-enum_told-1 c = search skips
-
-pub returns-in_default : goal.returns-in_default
-returns-in_default c = search skips
-
-pub read_signed-requires : goal.read_signed-requires
-read_signed-requires c = search skips
+pub returns-in_err-past : goal.returns-in_err-past
+returns-in_err-past c = rw (handed_on _ c.in_err-past.field-0.0 c.from_residual-in_err-past.ensures.1) (skip_not_2 _ _ _ c.in_ok-next.ensures c.in_err-past.ensures)
 
 pub returns : goal.returns
-returns c = search skips
+returns c = skip_is _ _ _ c.in_ok-next.ensures c.in_ok-past.ensures

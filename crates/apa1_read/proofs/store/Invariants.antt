@@ -2,10 +2,6 @@ use mathlib.Core.Bool.{false}
 use Rattle.apa1_read.proofs.PassNeeds.{Storing}
 use Rattle.apa1_read.proofs.store.Given as goal
 
-abbrev pub invariant-loop-rest : goal.invariant-loop-rest
-invariant-loop-rest l =
-    Storing false l.s l.count l.first l.initial.offsets l.initial.addends l.offsets l.addends l.rest l.from l.offset l.addend l.i
-
-abbrev pub decreases-loop-rest : goal.decreases-loop-rest
-decreases-loop-rest l =
-    l.rest
+abbrev pub invariant-loop-i : goal.invariant-loop-i
+invariant-loop-i l =
+    Storing false l.s l.count l.first l.initial.offsets l.initial.addends l.offsets l.addends l.i l.from l.offset l.addend

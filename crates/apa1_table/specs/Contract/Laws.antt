@@ -13,9 +13,8 @@ use Rattle.apa1_table.specs.Table.{Row, decode, rows, encode}
 use Rattle.apa1_table.specs.Table.Setting.{decode_lax}
 use Rattle.apa1_table.specs.Contract.{offset_of, addend_of, decoding, Filled, Reads, encoding, Writes}
 use Rattle.apa1_table.specs.Inner.{Fillable, Measures}
-use Rattle.std.specs.Prelude.{Result, Ok}
+use Rattle.std.specs.Prelude.{Result, Ok, Err}
 use Rattle.answer.specs.declared.Refused.{Refused}
-use Rattle.answer.specs.Outcome.{err_at}
 
 -- ---- reading
 module _ (strict : Bool) (s : List ℕ) (m k : ℕ) where
@@ -47,16 +46,16 @@ module _ (strict : Bool) (s os : List ℕ) (us : List ℤ) where
   reads_uneven a h = refuses a (read_uneven strict s (length os) (length us) h)
 
   -- f is what the first pass found
-  module _ {f : Result ℕ Refused} (e : f ≡ found_of (decode strict s)) (same : length os ≡ length us) where
+  module _ {f : Result ℕ Refused} (is : f ≡ found_of (decode strict s)) (same : length os ≡ length us) where
     plain : decoding strict s (length os) (length us) ≡ decode strict s
     plain = read_plain strict s (length os) (length us) same
 
-    pub reads_not : {r : Answer} {why : Refusal} {p : ℕ} → f ≡ err_at why p → r ≡ refusal why p → Reads strict s os us r os us
-    reads_not g a = refuses a (plain ∙ not_found (decode strict s) (sym e ∙ g))
+    pub reads_not : {r : Answer} {e : Refused} → f ≡ Err e → r ≡ refusal e.why e.place → Reads strict s os us r os us
+    reads_not g a = refuses a (plain ∙ not_found (decode strict s) (sym is ∙ g))
 
     module _ {k : ℕ} (g : f ≡ Ok k) where
       all : Counted (decode strict s) k
-      all = found_count (decode strict s) (sym e ∙ g)
+      all = found_count (decode strict s) (sym is ∙ g)
 
       pub reads_long : {r : Answer} → r ≡ no_room k → length os < k → Reads strict s os us r os us
       reads_long a h = let p = plain in record { answer = a ∙ rw p (sym (answer_long (length os) all h)); columns = rw p (kept_long os us all h same) }
@@ -99,7 +98,7 @@ module _ (os : List ℕ) (us : List ℤ) where
       wrote : {r : Answer} {new : List ℕ} → Gives (encoding os us) old r new → Writes os us old r new
       wrote g = record { gives = g; back = λ strict z. m.back strict _ (sym (write_plain same) ∙ gives_zero g z) }
 
-      pub writes_not : {r : Answer} {why : Refusal} {p : ℕ} → f ≡ err_at why p → r ≡ refusal why p → Writes os us old r old
+      pub writes_not : {r : Answer} {e : Refused} → f ≡ Err e → r ≡ refusal e.why e.place → Writes os us old r old
       writes_not e a = wrote (gives_not old found_is e a)
 
       module _ {k : ℕ} (e : f ≡ Ok k) where

@@ -30,7 +30,7 @@ module _ (strict : Bool) (s : List ℕ) where
 
   second : (prev : Row) (u : Signed) → Unless none (Spelled s) (first_of strict s prev u) (first_of false s prev u)
   unfolding first_of second_of
-  second prev (Ok (d , next)) =
+  second prev (Ok (d, next)) =
       unless_then err_at none (Spelled s) (second_of prev d) (second_of prev d) (λ why p. refl) (λ u. same refl) (read_signed strict 64 s next) (read_signed false 64 s next) (number strict next)
   second prev (Err e) = same refl
 
@@ -41,8 +41,8 @@ module _ (strict : Bool) (s : List ℕ) where
 
   count : (u v w : Signed) → Unless err_at (Spelled s) v w → Unless err_at (Spelled s) (count_of u v) (count_of u w)
   unfolding count_of plain
-  count (Ok ((pos n) , first)) v w h = unless_then err_at err_at (Spelled s) plain plain (λ why p. refl) (λ u. same refl) v w h
-  count (Ok ((negsuc n) , first)) v w h = same refl
+  count (Ok ((pos n), first)) v w h = unless_then err_at err_at (Spelled s) plain plain (λ why p. refl) (λ u. same refl) v w h
+  count (Ok ((negsuc n), first)) v w h = same refl
   count (Err e) v w h = same refl
 
   head : Unless err_at (Spelled s) (head_at strict s) (head_at false s)

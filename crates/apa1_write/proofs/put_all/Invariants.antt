@@ -1,10 +1,6 @@
-use Prim.Native.Nat.{◌-◌}
 use lib.ListN.{length}
 use Rattle.apa1_write.proofs.PassNeeds.{Filling}
 use Rattle.apa1_write.proofs.put_all.Given as goal
 
-abbrev pub invariant-loop-j : goal.invariant-loop-j
-invariant-loop-j l = Filling l.offsets l.addends l.initial.table l.table l.first l.at l.before l.base l.j
-
-abbrev pub decreases-loop-j : goal.decreases-loop-j
-decreases-loop-j l = length l.offsets - l.j
+abbrev pub invariant-loop-offset : goal.invariant-loop-offset
+invariant-loop-offset l = Filling l.offsets l.addends l.initial.table l.table l.first l.at l.before l.base (length l.yielded)
