@@ -32,13 +32,7 @@ pub struct Entry {
 
 // The record whose addend's difference stands at a place. (This and the next are of the second pass. Each number that is read brings a field of
 // the state before up to date.)
-fn with_addend(
-    s: &[u8],
-    at: usize,
-    width: u32,
-    now: State,
-    symbol: u32,
-) -> Result<Entry, Refused>
+fn with_addend(s: &[u8], at: usize, width: u32, now: State, symbol: u32) -> Result<Entry, Refused>
     requires { IsWidth width }
     ensures { entry_step result ≡ with_addend false width at now.addend now.offset now.kind symbol (read_signed false width s.now at) }
 {

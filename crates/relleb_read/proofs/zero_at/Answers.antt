@@ -13,4 +13,3 @@ returns-then-at-s c =
 
 pub returns-else-at-s : goal.returns-else-at-s
 returns-else-at-s c = λ h. changes_past _ _ c.args.strict c.if-at-s.false
-
