@@ -10,44 +10,39 @@ ghost use Rattle.records.specs.Reading.{records};
 ghost use Rattle.relleb_table.specs.Table.{state, start, no_change, with_addend, with_symbol, with_type, step_at, parse, decode};
 ghost use Rattle.relleb_table.specs.Contract.{Filled};
 ghost use Rattle.relleb_table.specs.Inner.{Fillable};
-ghost use Rattle.relleb_read.specs.Inner.{entry_step, change_at, Changes, EndsAddend, EndsSymbol, EndsRecord, Skips};
+ghost use Rattle.relleb_read.specs.Inner.{entry_step, change_at, past_of, Changes, EndsAddend, EndsSymbol, EndsRecord, Skips};
 
-use answer::{Found, INPUT_LIMIT, Refusal};
-use leb128::{Ended, Signed, Unsigned};
+use answer::{INPUT_LIMIT, Refusal, Refused};
 
-// A record with the place past it.
+// What a record goes by, and the next record after it: an offset, a type and an addend.
 #[derive(Clone, Copy)]
-pub enum Entry {
-    Record(u64, u32, u32, i64, usize),
-    Refused(Refusal, usize),
+pub struct State {
+    pub offset: u64,
+    pub kind: u32,
+    pub addend: i64,
 }
 
-// The record whose addend's difference stands at a place. (This and the next are of the second pass.)
-fn with_addend(
-    s: &[u8],
-    at: usize,
-    width: u32,
-    offset: u64,
-    kind: u32,
-    symbol: u32,
-    base: i64,
-) -> Entry
+// A record, as its symbol and the state after it, with the place past it.
+#[derive(Clone, Copy)]
+pub struct Entry {
+    pub symbol: u32,
+    pub now: State,
+    pub past: usize,
+}
+
+// The record whose addend's difference stands at a place. (This and the next are of the second pass. Each number that is read brings a field of
+// the state before up to date.)
+fn with_addend(s: &[u8], at: usize, width: u32, now: State, symbol: u32) -> Result<Entry, Refused>
     requires { IsWidth width }
-    ensures { entry_step result ≡ with_addend false width at base offset kind symbol (read_signed false width s.now at) }
+    ensures { entry_step result ≡ with_addend false width at now.addend now.offset now.kind symbol (read_signed false width s.now at) }
 {
-    let fourth = leb128::read_signed(false, s, at, width);
-    let Signed::Value(change, past) = fourth else {
-        let cause = fourth.cause();
-        let why = cause.why;
-        return Entry::Refused(why, cause.place);
-    };
-    Entry::Record(
-        offset,
-        kind,
+    let (change, past) = leb128::read_signed(false, s, at, width)?;
+    let addend = wrap::add_signed(width, now.addend, change);
+    Ok(Entry {
         symbol,
-        wrap::add_signed(width, base, change),
+        now: State { addend, ..now },
         past,
-    )
+    })
 }
 
 // The symbol of a symbol field.
@@ -62,66 +57,36 @@ fn symbol_in(field: i64) -> u32
 }
 
 // The record whose symbol field stands at a place.
-fn with_symbol(s: &[u8], at: usize, width: u32, offset: u64, kind: u32, base: i64) -> Entry
+fn with_symbol(s: &[u8], at: usize, width: u32, now: State) -> Result<Entry, Refused>
     requires { IsWidth width }
-    ensures { entry_step result ≡ with_symbol false width s.now base offset kind (read_signed false 33 s.now at) }
+    ensures { entry_step result ≡ with_symbol false width s.now now.addend now.offset now.kind (read_signed false 33 s.now at) }
 {
-    let third = leb128::read_signed(false, s, at, 33);
-    let Signed::Value(field, next) = third else {
-        let cause = third.cause();
-        let why = cause.why;
-        return Entry::Refused(why, cause.place);
-    };
+    let (field, past) = leb128::read_signed(false, s, at, 33)?;
     let symbol = symbol_in(field);
     if leb128::is_negative(field) {
-        return with_addend(s, next, width, offset, kind, symbol, base);
+        return with_addend(s, past, width, now, symbol);
     }
-    Entry::Record(offset, kind, symbol, base, next)
+    Ok(Entry { symbol, now, past })
 }
 
 // The record whose type's difference stands at a place.
-fn with_type(
-    s: &[u8],
-    at: usize,
-    width: u32,
-    offset: u64,
-    before: u64,
-    kind: u32,
-    base: i64,
-) -> Entry
+fn with_type(s: &[u8], at: usize, width: u32, now: State) -> Result<Entry, Refused>
     requires { IsWidth width }
-    ensures { entry_step result ≡ with_type false width s.now (state before kind base) offset (read_signed false 32 s.now at) }
+    ensures { entry_step result ≡ with_type false width s.now (state now.offset now.kind now.addend) now.offset (read_signed false 32 s.now at) }
 {
-    let second = leb128::read_signed(false, s, at, 32);
-    let Signed::Value(d, next) = second else {
-        let cause = second.cause();
-        let why = cause.why;
-        return Entry::Refused(why, cause.place);
-    };
-    let moved = wrap::moved(32, kind as u64, d);
-    with_symbol(s, next, width, offset, moved as u32, base)
+    let (d, next) = leb128::read_signed(false, s, at, 32)?;
+    let kind = wrap::moved(32, now.kind as u64, d) as u32;
+    with_symbol(s, next, width, State { kind, ..now })
 }
 
-// The record at a place, after one with this offset, this type and this addend.
-fn entry_at(s: &[u8], at: usize, width: u32, offset: u64, kind: u32, addend: i64) -> Entry
+// The record at a place, after one that led to a state.
+fn entry_at(s: &[u8], at: usize, width: u32, before: State) -> Result<Entry, Refused>
     requires { IsWidth width }
-    ensures { entry_step result ≡ step_at false width s.now at (state offset kind addend) }
+    ensures { entry_step result ≡ step_at false width s.now at (state before.offset before.kind before.addend) }
 {
-    let first = leb128::read_unsigned(false, s, at, width);
-    let Unsigned::Value(d, next) = first else {
-        let cause = first.cause();
-        let why = cause.why;
-        return Entry::Refused(why, cause.place);
-    };
-    with_type(
-        s,
-        next,
-        width,
-        wrap::add(width, offset, d),
-        offset,
-        kind,
-        addend,
-    )
+    let (d, next) = leb128::read_unsigned(false, s, at, width)?;
+    let offset = wrap::add(width, before.offset, d);
+    with_type(s, next, width, State { offset, ..before })
 }
 
 // Whether an addend's difference changes nothing. It is asked strictly alone.
@@ -134,44 +99,33 @@ fn no_change(strict: bool, change: i64) -> bool
     false
 }
 
-// The addend's difference at a place, or its refusal.
-fn skip_addend(strict: bool, s: &[u8], at: usize, width: u32) -> Signed
+// The place past the addend's difference at a place, or its refusal.
+fn skip_addend(strict: bool, s: &[u8], at: usize, width: u32) -> Result<usize, Refused>
     requires { IsWidth width }
-    ensures { result ≡ change_at strict width s.now at }
+    ensures { result ≡ past_of (change_at strict width s.now at) }
 {
-    let fourth = leb128::read_signed(strict, s, at, width);
-    let Signed::Value(change, _) = fourth else {
-        return fourth;
-    };
+    let (change, past) = leb128::read_signed(strict, s, at, width)?;
     if no_change(strict, change) {
-        return Signed::Refused(Refusal::Zero, at);
+        return Err(Refused {
+            why: Refusal::Zero,
+            place: at as u64,
+        });
     }
-    fourth
+    Ok(past)
 }
 
-// The last number of the record at a place, whose next place is past the record, or the refusal of any.
-fn skip_by_numbers(strict: bool, s: &[u8], at: usize, width: u32) -> Signed
+// The place past the record at a place, or the refusal of any of its numbers.
+fn skip_by_numbers(strict: bool, s: &[u8], at: usize, width: u32) -> Result<usize, Refused>
     requires { IsWidth width }
     ensures { Skips strict width s.now at result }
 {
-    let first = leb128::read_unsigned(strict, s, at, width);
-    let Unsigned::Value(_, next) = first else {
-        let cause = first.cause();
-        let why = cause.why;
-        return Signed::Refused(why, cause.place);
-    };
-    let second = leb128::read_signed(strict, s, next, 32);
-    let Signed::Value(_, third_at) = second else {
-        return second;
-    };
-    let third = leb128::read_signed(strict, s, third_at, 33);
-    let Signed::Value(field, past) = third else {
-        return third;
-    };
+    let (_, kind_at) = leb128::read_unsigned(strict, s, at, width)?;
+    let (_, symbol_at) = leb128::read_signed(strict, s, kind_at, 32)?;
+    let (field, past) = leb128::read_signed(strict, s, symbol_at, 33)?;
     if leb128::is_negative(field) {
         return skip_addend(strict, s, past, width);
     }
-    Signed::Value(field, past)
+    Ok(past)
 }
 
 // Whether the byte 0 stands at a place, which is the shortest form of 0. It is asked strictly alone.
@@ -186,101 +140,87 @@ fn zero_at(strict: bool, s: &[u8], at: usize) -> bool
     false
 }
 
-// The place past an addend's difference, which strictly may not be 0, or 0.
-fn end_addend(strict: bool, s: &[u8], at: usize, width: u32) -> usize
+// The place past an addend's difference, which strictly may not be 0.
+fn end_addend(strict: bool, s: &[u8], at: usize, width: u32) -> Option<usize>
     requires { IsWidth width }
     ensures { EndsAddend strict width s.now at result }
 {
     if zero_at(strict, s, at) {
-        return 0;
+        return None;
     }
     leb128::end_number(strict, s, at, width)
 }
 
-// The place past a symbol field, and past the addend's difference if it follows, or 0.
-fn end_symbol(strict: bool, s: &[u8], at: usize, width: u32) -> usize
+// The place past a symbol field, and past the addend's difference if it follows.
+fn end_symbol(strict: bool, s: &[u8], at: usize, width: u32) -> Option<usize>
     requires { IsWidth width }
     ensures { EndsSymbol strict width s.now at result }
 {
-    match leb128::end_signed(strict, s, at, 33) {
-        Ended::Positive(past) => past,
-        Ended::Negative(next) => end_addend(strict, s, next, width),
-        Ended::Unsaid => 0,
+    let (past, negative) = leb128::end_signed(strict, s, at, 33)?;
+    if negative {
+        return end_addend(strict, s, past, width);
     }
+    Some(past)
 }
 
-// The place past a record whose numbers are plainly accepted, or 0.
-fn end_at(strict: bool, s: &[u8], at: usize, width: u32) -> usize
+// The place past a record whose numbers are plainly accepted.
+fn end_at(strict: bool, s: &[u8], at: usize, width: u32) -> Option<usize>
     requires { IsWidth width }
     ensures { EndsRecord strict width s.now at result }
 {
-    let kind_at = leb128::end_unsigned(strict, s, at, width);
-    if kind_at < 1 {
-        return 0;
-    }
-    let symbol_at = leb128::end_number(strict, s, kind_at, 32);
-    if symbol_at < 1 {
-        return 0;
-    }
+    let kind_at = leb128::end_unsigned(strict, s, at, width)?;
+    let symbol_at = leb128::end_number(strict, s, kind_at, 32)?;
     end_symbol(strict, s, symbol_at, width)
 }
 
-// The same as an answer: any other record is read number by number.
-fn skip_at(strict: bool, s: &[u8], at: usize, width: u32) -> Signed
+// The place past any record, or its refusal: one that is not plainly accepted is read number by number.
+fn skip_at(strict: bool, s: &[u8], at: usize, width: u32) -> Result<usize, Refused>
     requires { IsWidth width }
     ensures { Skips strict width s.now at result }
 {
-    let past = end_at(strict, s, at, width);
-    if 0 < past {
-        return Signed::Value(0, past);
+    if let Some(past) = end_at(strict, s, at, width) {
+        return Ok(past);
     }
     skip_by_numbers(strict, s, at, width)
 }
 
 // The first pass over so many records from a place on: their count, or the refusal. It needs no sums: none is refused.
-fn walk(strict: bool, s: &[u8], width: u32, count: u64, first: usize) -> Found
+fn walk(strict: bool, s: &[u8], width: u32, count: u64, first: usize) -> Result<u64, Refused>
     requires { IsWidth width }
     ensures { result ≡ found_of (records (step_at strict width s.now) (length s.now) count first start) }
 {
-    let mut left = count;
-    let mut at = first;
-    while 0 < left {
-        let skipped = skip_at(strict, s, at, width);
-        let Signed::Value(_, past) = skipped else {
-            let cause = skipped.cause();
-            let why = cause.why;
-            return Found::Refused(why, cause.place as u64);
-        };
-        at = past;
-        left -= 1;
+    let mut from = first;
+    for _ in 0..count {
+        from = skip_at(strict, s, from, width)?;
     }
-    if at < s.len() {
-        return Found::Refused(Refusal::Trailing, at as u64);
+    if from < s.len() {
+        return Err(Refused {
+            why: Refusal::Trailing,
+            place: from as u64,
+        });
     }
-    Found::Count(count)
+    Ok(count)
 }
 
 // The first pass over a table, however long it is.
-fn scan(strict: bool, s: &[u8], width: u32) -> Found
+fn scan(strict: bool, s: &[u8], width: u32) -> Result<u64, Refused>
     requires { IsWidth width }
     ensures { result ≡ found_of (parse strict width s.now) }
 {
-    let head = leb128::read_unsigned(strict, s, 0, 64);
-    let Unsigned::Value(count, first) = head else {
-        let cause = head.cause();
-        let why = cause.why;
-        return Found::Refused(why, cause.place as u64);
-    };
+    let (count, first) = leb128::read_unsigned(strict, s, 0, 64)?;
     walk(strict, s, width, count, first)
 }
 
 // The count of the records of a table, or the refusal: first that of a table over its limit.
-pub fn check(strict: bool, s: &[u8], width: u32) -> Found
+pub fn check(strict: bool, s: &[u8], width: u32) -> Result<u64, Refused>
     requires { IsWidth width }
     ensures { result ≡ found_of (decode strict width s.now) }
 {
     if INPUT_LIMIT < s.len() {
-        return Found::Refused(Refusal::Limit, 0);
+        return Err(Refused {
+            why: Refusal::Limit,
+            place: 0,
+        });
     }
     scan(strict, s, width)
 }
@@ -299,30 +239,22 @@ fn store(
     requires { (IsWidth width) × (Fillable (records (step_at false width s.now) (length s.now) count first start) offsets.old types.old symbols.old addends.old) }
     ensures { Filled (records (step_at false width s.now) (length s.now) count first start) offsets.old types.old symbols.old addends.old offsets.new types.new symbols.new addends.new }
 {
-    let mut rest = count;
     let mut from = first;
-    let mut offset: u64 = 0;
-    let mut kind: u32 = 0;
-    let mut addend: i64 = 0;
-    let mut i: usize = 0;
-    while 0 < rest {
-        match entry_at(s, from, width, offset, kind, addend) {
-            Entry::Refused(_, _) => {
-                return;
-            }
-            Entry::Record(o, t, y, a, past) => {
-                offset = o;
-                kind = t;
-                addend = a;
-                offsets[i] = offset;
-                types[i] = kind;
-                symbols[i] = y;
-                addends[i] = addend;
-                from = past;
-                rest -= 1;
-                i += 1;
-            }
-        }
+    let mut state = State {
+        offset: 0,
+        kind: 0,
+        addend: 0,
+    };
+    for i in 0..count as usize {
+        let Ok(entry) = entry_at(s, from, width, state) else {
+            return;
+        };
+        state = entry.now;
+        offsets[i] = state.offset;
+        types[i] = state.kind;
+        symbols[i] = entry.symbol;
+        addends[i] = state.addend;
+        from = entry.past;
     }
 }
 
@@ -338,8 +270,7 @@ pub fn fill(
     requires { (IsWidth width) × (Fillable (decode false width s.now) offsets.old types.old symbols.old addends.old) }
     ensures { Filled (decode false width s.now) offsets.old types.old symbols.old addends.old offsets.new types.new symbols.new addends.new }
 {
-    let head = leb128::read_unsigned(false, s, 0, 64);
-    let Unsigned::Value(count, first) = head else {
+    let Ok((count, first)) = leb128::read_unsigned(false, s, 0, 64) else {
         return;
     };
     store(s, width, count, first, offsets, types, symbols, addends);

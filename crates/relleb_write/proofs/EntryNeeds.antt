@@ -27,7 +27,7 @@ use Rattle.relleb_write.specs.Inner.{Measured}
 use Rattle.relleb_table.specs.Table.Laws.{put_space, put_addend, put_bytes, entry_is, field_is, symbol_bytes_law, type_bytes_law, offset_bytes, field_bytes_law, change_none, change_some}
 
 -- a signed number as the code passes it on: by its bits
-abbrev Bits : ℤ → ℤ
+abbrev pub Bits : ℤ → ℤ
 Bits z = to_z w64 (of_z w64 z)
 
 -- ---- the symbol field
@@ -146,12 +146,12 @@ module _ (table : List ℕ) (at : ℕ) (t f a : ℤ) (room : at + length (type_b
   pub type_room : Bits t ≡ t → at + length (short_signed (Bits t)) ≤ length table
   type_room i = rw i (omega (arith, type_all))
 
-  module _ {mid : List ℕ} {next : ℕ} (g : Written table mid at next (short_signed (Bits t))) (i : Bits t ≡ t) (j : Bits f ≡ f) (k : Bits a ≡ a) where
-    pub type_rest : length mid ≡ length table → next + length (symbol_bytes (Bits f) (Bits a)) ≤ length mid
-    type_rest p = rw (j, k) (omega (arith, type_all, g.place, ap (λ (z : ℤ). length (short_signed z)) i))
+  module _ {mid : List ℕ} {next : ℕ} (g : Written table mid at next (short_signed (Bits t))) (i : Bits t ≡ t) where
+    pub type_rest : length mid ≡ length table → next + length (symbol_bytes f a) ≤ length mid
+    type_rest p = omega (arith, type_all, g.place, ap (λ (z : ℤ). length (short_signed z)) i)
 
-    pub type_put : {new : List ℕ} {past : ℕ} → Written mid new next past (symbol_bytes (Bits f) (Bits a)) → Written table new at past (type_bytes t f a)
-    type_put p = rw (type_bytes_law t f a) (written_then (rw i at g) (rw (j, k) at p))
+    pub type_put : {new : List ℕ} {past : ℕ} → Written mid new next past (symbol_bytes f a) → Written table new at past (type_bytes t f a)
+    type_put p = rw (type_bytes_law t f a) (written_then (rw i at g) p)
 
 pub ruleset type_puts = (type_room, type_rest, type_put, rules)
 
@@ -162,11 +162,11 @@ module _ (table : List ℕ) (at d : ℕ) (t f a : ℤ) (room : at + length (fiel
   pub offset_room : at + length (short_unsigned d) ≤ length table
   offset_room = omega (arith, offset_all)
 
-  module _ {mid : List ℕ} {next : ℕ} (g : Written table mid at next (short_unsigned d)) (i : Bits t ≡ t) (j : Bits f ≡ f) (k : Bits a ≡ a) where
-    pub offset_rest : length mid ≡ length table → next + length (type_bytes (Bits t) (Bits f) (Bits a)) ≤ length mid
-    offset_rest p = rw (i, j, k) (omega (arith, offset_all, g.place))
+  module _ {mid : List ℕ} {next : ℕ} (g : Written table mid at next (short_unsigned d)) where
+    pub offset_rest : length mid ≡ length table → next + length (type_bytes t f a) ≤ length mid
+    offset_rest p = omega (arith, offset_all, g.place)
 
-    pub offset_put : {new : List ℕ} {past : ℕ} → Written mid new next past (type_bytes (Bits t) (Bits f) (Bits a)) → Written table new at past (field_bytes d t f a)
-    offset_put p = rw (offset_bytes d t f a) (written_then g (rw (i, j, k) at p))
+    pub offset_put : {new : List ℕ} {past : ℕ} → Written mid new next past (type_bytes t f a) → Written table new at past (field_bytes d t f a)
+    offset_put p = rw (offset_bytes d t f a) (written_then g p)
 
 pub ruleset offset_puts = (offset_room, offset_rest, offset_put, rules)

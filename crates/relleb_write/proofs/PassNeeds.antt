@@ -1,4 +1,4 @@
--- What the writer's passes go by, as the code asks it: x is what `fields_of` returned. A loop has the addend before, w.
+-- What the writer's passes go by, as the code asks it. A loop has the addend before, w.
 -- Assumes nothing.
 use Prim.Native.Nat.{ℕ, ◌+◌, ◌^◌, ◌≤◌, ◌<◌}
 use mathlib.Core.Path.{◌≡◌, ap, sym, ◌∙◌}
@@ -8,36 +8,29 @@ use lib.IntN.{ℤ, pos}
 use lib.ListN.{length, drop, get_or}
 use lib.Signed.{mag}
 use mir.Syntax.{w32, w64}
-use mir.Val.{to_z, of_z, Fits}
+use mir.Val.{Fits}
 use mir.Facts.{to_z-of_z}
 use borrow.Author.Rules.{rules, sfits_of}
+use Rattle.std.specs.Prelude.{Ok}
 use Rattle.answer.specs.declared.Refusal.{Refusal}
 use Rattle.answer.specs.declared.Refusal.TheVariants.{Limit}
 use Rattle.answer.proofs.Limits.{list_small}
-use Rattle.answer.specs.Outcome.{Outcome, list_limit, after, found_of}
+use Rattle.answer.specs.Outcome.{Outcome, list_limit, after, err_at, found_of}
 use Rattle.answer.specs.Outcome.Laws.{accepted_refused, found_refused, found_count, not_found}
 use Rattle.answer.specs.Written.{Written}
 use Rattle.leb128.specs.Number.{IsWidth, short_unsigned}
 use Rattle.leb128.proofs.RoundTrip.{unsigned_bytes}
 use Rattle.records.specs.Writing as Writing
-use Rattle.records.specs.Writing.{puts, Puts}
-use Rattle.records.proofs.Writing.{Sized, sized_none, sized_more, sized_bad, sized_end, Putting, putting_none, putting_same, putting_bad, putting_room, putting_more, putting_end, head_room, body_room, both_written}
-use Rattle.relleb_write.specs.declared.Fields.{Fields}
-use Rattle.relleb_write.specs.declared.Fields.TheVariants.{Numbers, Refused}
+use Rattle.records.specs.Writing.{bytes, puts, Puts}
+use Rattle.records.proofs.Writing.{Sized, sized_none, sized_more, sized_bad, sized_end, Putting, putting_none, putting_bad, putting_room, putting_more, putting_end, head_room, body_room, both_written}
 use Rattle.relleb_table.specs.Table.{Row, row, State, state, start, behind, rows, field_bytes, put_of, build, encode}
 use Rattle.relleb_table.specs.Table.Laws.{rows_from_law, build_is, encode_over, encode_in, encode_accepted}
 use Rattle.relleb_table.specs.Contract.{Same}
 use Rattle.relleb_table.specs.Contract.Laws.{many, class_width, measures_at}
 use Rattle.relleb_table.specs.Inner.{Listed, Measures, Puttable}
 use Rattle.relleb_table.proofs.RoundTrip.{put_is, decode_encode, rows_fine}
-use Rattle.relleb_write.specs.Inner.{fields_put, Measured}
-use Rattle.std.specs.Prelude.{Ok}
-use Rattle.answer.specs.declared.Refused.{Refused}
-use Rattle.answer.specs.Outcome.{err_at}
-
--- a signed number as the code passes it on: by its bits
-abbrev Bits : ℤ → ℤ
-Bits z = to_z w64 (of_z w64 z)
+use Rattle.relleb_write.specs.Inner.{Measured}
+use Rattle.relleb_write.proofs.EntryNeeds.{Bits}
 
 -- the record at an index, as the loop has it
 abbrev row_at : List ℕ → List ℕ → List ℕ → List ℤ → ℕ → Row
@@ -61,32 +54,24 @@ put_wide W prev x w o a e =
 -- the records before index i
 pub record Sizing (W : ℕ) (os ts ys : List ℕ) (us : List ℤ) (total o t : ℕ) (w : ℤ) (i : ℕ) : Type 0 where
   pub sized : Sized (put_of W) behind (build W (rows os ts ys us)) (rows os ts ys us) 40 total i (state o t w)
-  pub within : i ≤ length os
 
 pub size_begin : (W : ℕ) {os ts ys : List ℕ} {us : List ℤ} {total : ℕ} → Listed os ts ys us → total ≡ length (short_unsigned (length os)) → Sizing W os ts ys us total 0 0 (pos 0) 0
 size_begin W {os} {ts} {ys} {us} l e =
     let n = many os ts ys us l.same in
     let k = unsigned_bytes 64 (length (rows os ts ys us)) (omega arith) (omega (arith, l.few, list_small)) in
-    record {
-      sized = rw (build_is W (rows os ts ys us), e, ← n) (sized_none (put_of W) behind (rows os ts ys us) (short_unsigned (length (rows os ts ys us))) 40 start (omega arith));
-      within = omega arith;
-    }
+    record { sized = rw (build_is W (rows os ts ys us), e, ← n) (sized_none (put_of W) behind (rows os ts ys us) (short_unsigned (length (rows os ts ys us))) 40 start (omega arith)) }
 
 module _ {W : ℕ} {os ts ys : List ℕ} {us : List ℤ} {total o t : ℕ} {w : ℤ} {i : ℕ} (l : Listed os ts ys us) (g : Sizing W os ts ys us total o t w i) where
   limit : encode W (rows os ts ys us) ≡ build W (rows os ts ys us)
   limit = encode_in W (rows os ts ys us) (omega (arith, many os ts ys us l.same, l.few))
 
-  module _ {x : Fields} {d : ℕ} {q f a : ℤ} {r : ℕ} (h : i < length os) (m : mag (get_or us i (pos 0)) < 2 ^ 63) (e : fields_put x ≡ put_of W (state o t w) (row_at os ts ys us i))
-      (k : x ≡ Numbers d q f a) (i₁ : Bits q ≡ q) (i₂ : Bits f ≡ f) (i₃ : Bits a ≡ a) (n : Measured r (field_bytes d (Bits q) (Bits f) (Bits a))) where
+  module _ (d : ℕ) (q f a : ℤ) {r : ℕ} (h : i < length os) (m : mag (get_or us i (pos 0)) < 2 ^ 63) (e : bytes (field_bytes d q f a) ≡ put_of W (state o t w) (row_at os ts ys us i))
+      (n : Measured r (field_bytes d q f a)) where
     pub size_sum : Fits w64 (total + r)
-    size_sum = record { fits = omega (arith, g.sized.few, g.within, l.few, n.few, list_small) }
+    size_sum = record { fits = omega (arith, g.sized.few, l.few, n.few, list_small) }
 
     pub size_more : Sizing W os ts ys us (total + r) (get_or os i 0) (get_or ts i 0) (Bits (get_or us i (pos 0))) (i + 1)
-    size_more =
-        record {
-          sized = rw (n.is, i₁, i₂, i₃) (sized_more g.sized (here os ts ys us l.same i h m) (sym e ∙ ap fields_put k) (rw (n.is, i₁, i₂, i₃) at n.few));
-          within = omega arith;
-        }
+    size_more = record { sized = rw n.is (sized_more g.sized (here os ts ys us l.same i h m) (sym e) (rw n.is at n.few)) }
 
   pub size_end : length os ≤ i → IsWidth W → ((j : ℕ) → Fits w32 (get_or ts j 0)) → ((j : ℕ) → Fits w32 (get_or ys j 0)) → Measures W os ts ys us (Ok total)
   size_end h wide kinds indexes =
@@ -97,27 +82,16 @@ module _ {W : ℕ} {os ts ys : List ℕ} {us : List ℤ} {total o t : ℕ} {w : 
         wide = λ v k. (let c = found_count (encode W (rows os ts ys us)) (sym p) in record { list = c.list; is = c.is });
       }
 
-  pub size_in_2 : i < length os → i < length ts
-  size_in_2 h = omega (arith, l.same.types)
-
-  pub size_in_3 : i < length os → i < length ys
-  size_in_3 h = omega (arith, l.same.symbols)
-
-  pub size_in_4 : i < length os → i < length us
-  size_in_4 h = omega (arith, l.same.addends)
-
 -- a refused record; at 64 bits there is none
-pub size_bad : {W : ℕ} {os ts ys : List ℕ} {us : List ℤ} {total o t : ℕ} {w : ℤ} {i : ℕ} {x : Fields} {why : Refusal} → x ≡ Refused why → fields_put x ≡ put_of W (state o t w) (row_at os ts ys us i)
+pub size_bad : {W : ℕ} {os ts ys : List ℕ} {us : List ℤ} {total o t : ℕ} {w : ℤ} {i : ℕ} {why : Refusal} → Writing.none why ≡ put_of W (state o t w) (row_at os ts ys us i)
     → Sizing W os ts ys us total o t w i → Listed os ts ys us → i < length os → mag (get_or us i (pos 0)) < 2 ^ 63 → ((j : ℕ) → Fits w64 (get_or os j 0)) → Measures W os ts ys us (err_at why i)
-size_bad {W} {os} {ts} {ys} {us} {i = i} f e g l h m wide =
-    let p = sized_bad g.sized (here os ts ys us l.same i h m) (sym e ∙ ap fields_put f) ∙ ap found_of (sym (limit l g)) in
+size_bad {W} {os} {ts} {ys} {us} {i = i} e g l h m wide =
+    let p = sized_bad g.sized (here os ts ys us l.same i h m) (sym e) ∙ ap found_of (sym (limit l g)) in
     record {
       found = p;
       back = λ strict b q. absurd (accepted_refused q (not_found (encode W (rows os ts ys us)) (sym p)));
-      wide = λ v k. absurd (put_wide W _ (row_at os ts ys us i) v (wide i).fits (rw (to_z-of_z {w = w64} (sfits_of m)) m) (sym e ∙ ap fields_put f));
+      wide = λ v k. absurd (put_wide W _ (row_at os ts ys us i) v (wide i).fits (rw (to_z-of_z {w = w64} (sfits_of m)) m) (sym e));
     }
-
-pub ruleset sizes = (size_begin, size_bad, size_sum, size_more, size_end, size_in_2, size_in_3, size_in_4, rules)
 
 -- ---- the limit in front
 module _ (W : ℕ) {os ts ys : List ℕ} {us : List ℤ} (same : Same os ts ys us) where
@@ -140,34 +114,20 @@ pub put_begin : (W : ℕ) (os ts ys : List ℕ) (us : List ℤ) (old : List ℕ)
 put_begin W os ts ys us old at = record { putting = putting_none (put_of W) behind (rows os ts ys us) old at start }
 
 module _ {W : ℕ} {os ts ys : List ℕ} {us : List ℤ} {old now : List ℕ} {first at o t : ℕ} {w : ℤ} {i : ℕ} (f : Puttable (body W os ts ys us) os ts ys us old first) (g : Filling W os ts ys us old now first at o t w i) where
-  pub put_same : length now ≡ length old
-  put_same = putting_same f.fits g.putting
+  module _ (h : i < length os) (m : mag (get_or us i (pos 0)) < 2 ^ 63) where
+    pub put_bad : {why : Refusal} → Writing.none why ≡ put_of W (state o t w) (row_at os ts ys us i) → Puts (body W os ts ys us) old now first
+    put_bad e = absurd (putting_bad f.fits g.putting (here os ts ys us f.same i h m) (sym e))
 
-  module _ {x : Fields} (h : i < length os) (m : mag (get_or us i (pos 0)) < 2 ^ 63) (e : fields_put x ≡ put_of W (state o t w) (row_at os ts ys us i)) where
-    pub put_bad : {why : Refusal} → x ≡ Refused why → Puts (body W os ts ys us) old now first
-    put_bad k = absurd (putting_bad f.fits g.putting (here os ts ys us f.same i h m) (sym e ∙ ap fields_put k))
+    module _ (d : ℕ) (q p a : ℤ) (e : bytes (field_bytes d q p a) ≡ put_of W (state o t w) (row_at os ts ys us i)) where
+      pub put_room : at + length (field_bytes d q p a) ≤ length now
+      put_room = putting_room f.fits g.putting (here os ts ys us f.same i h m) (sym e)
 
-    module _ {d : ℕ} {q p a : ℤ} (k : x ≡ Numbers d q p a) (i₁ : Bits q ≡ q) (i₂ : Bits p ≡ p) (i₃ : Bits a ≡ a) where
-      pub put_room : at + length (field_bytes d (Bits q) (Bits p) (Bits a)) ≤ length now
-      put_room = rw (i₁, i₂, i₃) (putting_room f.fits g.putting (here os ts ys us f.same i h m) (sym e ∙ ap fields_put k))
-
-      pub put_more : {new : List ℕ} {past : ℕ} → Written now new at past (field_bytes d (Bits q) (Bits p) (Bits a))
+      pub put_more : {new : List ℕ} {past : ℕ} → Written now new at past (field_bytes d q p a)
           → Filling W os ts ys us old new first past (get_or os i 0) (get_or ts i 0) (Bits (get_or us i (pos 0))) (i + 1)
-      put_more v = record { putting = putting_more f.fits g.putting (here os ts ys us f.same i h m) (sym e ∙ ap fields_put k) (rw (i₁, i₂, i₃) at v) }
+      put_more v = record { putting = putting_more f.fits g.putting (here os ts ys us f.same i h m) (sym e) v }
 
   pub put_end : length os ≤ i → Puts (body W os ts ys us) old now first
   put_end h = putting_end f.fits g.putting (omega (arith, many os ts ys us f.same))
-
-  pub put_in_2 : i < length os → i < length ts
-  put_in_2 h = omega (arith, f.same.types)
-
-  pub put_in_3 : i < length os → i < length ys
-  put_in_3 h = omega (arith, f.same.symbols)
-
-  pub put_in_4 : i < length os → i < length us
-  put_in_4 h = omega (arith, f.same.addends)
-
-pub ruleset puttings = (put_begin, put_same, put_bad, put_room, put_more, put_end, put_in_2, put_in_3, put_in_4, rules)
 
 -- ---- the count, and then the records
 module _ (W : ℕ) (os ts ys : List ℕ) (us : List ℤ) (old : List ℕ) (f : Puttable (encode W (rows os ts ys us)) os ts ys us old 0) where

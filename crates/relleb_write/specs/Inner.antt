@@ -1,10 +1,9 @@
 -- What the inner functions promise.
 -- Assumes nothing.
-use Rattle.std.specs.Prelude.{ℕ, ◌≤◌, ◌≡◌, List, length}
-use Rattle.records.specs.Writing.{Put, bytes}
-use Rattle.records.specs.Writing as Writing
+use Rattle.std.specs.Prelude.{ℕ, ◌≤◌, ◌≡◌, List, length, Result, Ok, Err}
+use Rattle.answer.specs.declared.Refusal.{Refusal}
+use Rattle.records.specs.Writing.{Put, bytes, none}
 use Rattle.relleb_write.specs.declared.Fields.{Fields}
-use Rattle.relleb_write.specs.declared.Fields.TheVariants.{Numbers, Refused as NoFields}
 use Rattle.relleb_table.specs.Table.{field_bytes}
 
 -- r is how many bytes four numbers take; each takes at most ten
@@ -13,6 +12,6 @@ pub record Measured (r : ℕ) (b : List ℕ) : Type 0 where
   pub few : r ≤ 40
 
 -- the bytes of a record's numbers
-abbrev pub fields_put : Fields → Put
-fields_put (Numbers d t f a) = bytes (field_bytes d t f a)
-fields_put (NoFields why) = Writing.none why
+abbrev pub fields_put : Result Fields Refusal → Put
+fields_put (Ok f) = bytes (field_bytes f.step f.turn f.field f.change)
+fields_put (Err why) = none why

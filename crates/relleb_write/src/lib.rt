@@ -11,15 +11,26 @@ ghost use Rattle.relleb_table.specs.Inner.{Listed, Measures, Puttable};
 ghost use Rattle.relleb_write.specs.Inner.{fields_put, Measured};
 ghost use Rattle.word.specs.Class.{width_of};
 
-use answer::{Found, LIST_LIMIT, Refusal};
+use answer::{LIST_LIMIT, Refusal, Refused};
 use word::Size;
+
+// A record as the columns have it.
+#[derive(Clone, Copy)]
+pub struct Row {
+    pub offset: u64,
+    pub kind: u32,
+    pub symbol: u32,
+    pub addend: i64,
+}
 
 // A record as its numbers: the offset's difference, the type's, the symbol field, and the addend's difference, which is written behind a
 // negative symbol field.
 #[derive(Clone, Copy)]
-pub enum Fields {
-    Numbers(u64, i64, i64, i64),
-    Refused(Refusal),
+pub struct Fields {
+    pub step: u64,
+    pub turn: i64,
+    pub field: i64,
+    pub change: i64,
 }
 
 // The symbol field.
@@ -32,104 +43,105 @@ fn field_of(symbol: u32, same: bool) -> i64
     -1 - (symbol as i64)
 }
 
-// The numbers of a record, after one with this offset, this type and this addend.
-fn fields_of(
-    width: u32,
-    offset: u64,
-    kind: u32,
-    symbol: u32,
-    addend: i64,
-    before: u64,
-    last: u32,
-    base: i64,
-) -> Fields
+// The numbers of a record, after the one before. (The first goes by zeros.)
+fn fields_of(width: u32, now: Row, before: Row) -> Result<Fields, Refusal>
     requires { IsWidth width }
-    ensures { fields_put result ≡ put_of width (state before last base) (row offset kind symbol addend) }
+    ensures { fields_put result ≡ put_of width (state before.offset before.kind before.addend) (row now.offset now.kind now.symbol now.addend) }
 {
-    if !wrap::fits_unsigned(width, offset) {
-        return Fields::Refused(Refusal::Space);
+    if !wrap::fits_unsigned(width, now.offset) {
+        return Err(Refusal::Space);
     }
-    if !wrap::fits_signed(width, addend) {
-        return Fields::Refused(Refusal::Addend);
+    if !wrap::fits_signed(width, now.addend) {
+        return Err(Refusal::Addend);
     }
-    let step = wrap::sub(width, offset, before);
-    let turn = wrap::distance(32, kind as u64, last as u64);
-    let field = field_of(symbol, wrap::equal(addend, base));
-    let change = wrap::sub_signed(width, addend, base);
-    Fields::Numbers(step, turn, field, change)
+    Ok(Fields {
+        step: wrap::sub(width, now.offset, before.offset),
+        turn: wrap::distance(32, now.kind as u64, before.kind as u64),
+        field: field_of(now.symbol, wrap::equal(now.addend, before.addend)),
+        change: wrap::sub_signed(width, now.addend, before.addend),
+    })
 }
 
 // How many bytes a record's numbers take.
-fn fields_len(step: u64, turn: i64, field: i64, change: i64) -> usize
-    ensures { Measured result (field_bytes step turn field change) }
+fn fields_len(f: Fields) -> usize
+    ensures { Measured result (field_bytes f.step f.turn f.field f.change) }
 {
-    let three = leb128::unsigned_len(step) + leb128::signed_len(turn) + leb128::signed_len(field);
-    if leb128::is_negative(field) {
-        return three + leb128::signed_len(change);
+    let three = leb128::unsigned_len(f.step)
+        + leb128::signed_len(f.turn)
+        + leb128::signed_len(f.field);
+    if leb128::is_negative(f.field) {
+        return three + leb128::signed_len(f.change);
     }
     three
 }
 
 // The numbers from the symbol field on, at a place.
-fn put_symbol(table: &mut [u8], at: usize, field: i64, change: i64) -> usize
-    requires { at + length (symbol_bytes field change) ≤ length table.old }
-    ensures { Written table.old table.new at result (symbol_bytes field change) }
+fn put_symbol(table: &mut [u8], at: usize, f: Fields) -> usize
+    requires { at + length (symbol_bytes f.field f.change) ≤ length table.old }
+    ensures { Written table.old table.new at result (symbol_bytes f.field f.change) }
 {
-    let next = leb128::write_signed(&mut *table, at, field);
-    if leb128::is_negative(field) {
-        return leb128::write_signed(&mut *table, next, change);
+    let next = leb128::write_signed(&mut *table, at, f.field);
+    if leb128::is_negative(f.field) {
+        return leb128::write_signed(&mut *table, next, f.change);
     }
     next
 }
 
 // From the type's difference on.
-fn put_type(table: &mut [u8], at: usize, turn: i64, field: i64, change: i64) -> usize
-    requires { at + length (type_bytes turn field change) ≤ length table.old }
-    ensures { Written table.old table.new at result (type_bytes turn field change) }
+fn put_type(table: &mut [u8], at: usize, f: Fields) -> usize
+    requires { at + length (type_bytes f.turn f.field f.change) ≤ length table.old }
+    ensures { Written table.old table.new at result (type_bytes f.turn f.field f.change) }
 {
-    let next = leb128::write_signed(&mut *table, at, turn);
-    put_symbol(&mut *table, next, field, change)
+    let next = leb128::write_signed(&mut *table, at, f.turn);
+    put_symbol(&mut *table, next, f)
 }
 
 // All of them.
-fn put_fields(table: &mut [u8], at: usize, step: u64, turn: i64, field: i64, change: i64) -> usize
-    requires { at + length (field_bytes step turn field change) ≤ length table.old }
-    ensures { Written table.old table.new at result (field_bytes step turn field change) }
+fn put_fields(table: &mut [u8], at: usize, f: Fields) -> usize
+    requires { at + length (field_bytes f.step f.turn f.field f.change) ≤ length table.old }
+    ensures { Written table.old table.new at result (field_bytes f.step f.turn f.field f.change) }
 {
-    let next = leb128::write_unsigned(&mut *table, at, step);
-    put_type(&mut *table, next, turn, field, change)
+    let next = leb128::write_unsigned(&mut *table, at, f.step);
+    put_type(&mut *table, next, f)
 }
 
 // The first pass over a list within its limit.
-fn size(width: u32, offsets: &[u64], types: &[u32], symbols: &[u32], addends: &[i64]) -> Found
+fn size(
+    width: u32,
+    offsets: &[u64],
+    types: &[u32],
+    symbols: &[u32],
+    addends: &[i64],
+) -> Result<u64, Refused>
     requires { (IsWidth width) × (Listed offsets.now types.now symbols.now addends.now) }
     ensures { Measures width offsets.now types.now symbols.now addends.now result }
 {
-    let n = offsets.len();
-    let mut total = leb128::unsigned_len(n as u64);
-    let mut before: u64 = 0;
-    let mut last: u32 = 0;
-    let mut base: i64 = 0;
-    let mut i: usize = 0;
-    while i < n {
-        let offset = offsets[i];
-        let kind = types[i];
-        let symbol = symbols[i];
-        let addend = addends[i];
-        match fields_of(width, offset, kind, symbol, addend, before, last, base) {
-            Fields::Refused(why) => {
-                return Found::Refused(why, i as u64);
+    let mut total = leb128::unsigned_len(offsets.len() as u64);
+    let mut before = Row {
+        offset: 0,
+        kind: 0,
+        symbol: 0,
+        addend: 0,
+    };
+    for i in 0..offsets.len() {
+        let now = Row {
+            offset: offsets[i],
+            kind: types[i],
+            symbol: symbols[i],
+            addend: addends[i],
+        };
+        match fields_of(width, now, before) {
+            Err(why) => {
+                let place = i as u64;
+                return Err(Refused { why, place });
             }
-            Fields::Numbers(step, turn, field, change) => {
-                total += fields_len(step, turn, field, change);
-                before = offset;
-                last = kind;
-                base = addend;
-                i += 1;
+            Ok(fields) => {
+                total += fields_len(fields);
+                before = now;
             }
         }
     }
-    Found::Count(total as u64)
+    Ok(total as u64)
 }
 
 // How many bytes a table of a class takes, or the refusal: first that of a list over its limit. The first pass is a loop for each class,
@@ -140,12 +152,15 @@ pub fn measure(
     types: &[u32],
     symbols: &[u32],
     addends: &[i64],
-) -> Found
+) -> Result<u64, Refused>
     requires { Same offsets.now types.now symbols.now addends.now }
     ensures { Measures (width_of kind) offsets.now types.now symbols.now addends.now result }
 {
     if LIST_LIMIT < offsets.len() {
-        return Found::Refused(Refusal::Limit, 0);
+        return Err(Refused {
+            why: Refusal::Limit,
+            place: 0,
+        });
     }
     match kind {
         Size::Four => size(Size::FOUR_BITS, offsets, types, symbols, addends),
@@ -166,29 +181,25 @@ fn put_all(
     requires { (IsWidth width) × (Puttable (puts (put_of width) behind 0 start (rows offsets.now types.now symbols.now addends.now)) offsets.now types.now symbols.now addends.now table.old first) }
     ensures { Puts (puts (put_of width) behind 0 start (rows offsets.now types.now symbols.now addends.now)) table.old table.new first }
 {
-    let n = offsets.len();
     let mut at = first;
-    let mut before: u64 = 0;
-    let mut last: u32 = 0;
-    let mut base: i64 = 0;
-    let mut j: usize = 0;
-    while j < n {
-        let offset = offsets[j];
-        let kind = types[j];
-        let symbol = symbols[j];
-        let addend = addends[j];
-        match fields_of(width, offset, kind, symbol, addend, before, last, base) {
-            Fields::Refused(_) => {
-                return;
-            }
-            Fields::Numbers(step, turn, field, change) => {
-                at = put_fields(&mut *table, at, step, turn, field, change);
-                before = offset;
-                last = kind;
-                base = addend;
-                j += 1;
-            }
-        }
+    let mut before = Row {
+        offset: 0,
+        kind: 0,
+        symbol: 0,
+        addend: 0,
+    };
+    for i in 0..offsets.len() {
+        let now = Row {
+            offset: offsets[i],
+            kind: types[i],
+            symbol: symbols[i],
+            addend: addends[i],
+        };
+        let Ok(fields) = fields_of(width, now, before) else {
+            return;
+        };
+        at = put_fields(&mut *table, at, fields);
+        before = now;
     }
 }
 

@@ -1,35 +1,20 @@
-use Rattle.relleb_read.proofs.PassNeeds.{walks}
+use mathlib.Core.Path.{◌∙◌}
+use Rattle.answer.specs.Outcome.Laws.{handed_on}
+use Rattle.relleb_read.proofs.PassNeeds.{walks, walk_more, walk_bad}
 use Rattle.relleb_read.proofs.walk.Goals as goal
 
-pub loop-left-init : goal.loop-left-init
-loop-left-init c = search walks
+pub loop-init : goal.loop-init
+loop-init c = search walks
 
-pub skip_at-skipped-requires : goal.skip_at-skipped-requires
-skip_at-skipped-requires c = search walks
+pub returns-in_err-from : goal.returns-in_err-from
+returns-in_err-from c =
+    handed_on _ c.in_err-from.field-0.0 c.from_residual.ensures.1 ∙ walk_bad c.loop.invariant c.loop-test.true c.in_err-from.ensures
 
-pub enum_known-skipped : goal.enum_known-skipped
-enum_known-skipped c = search walks
+pub loop-preserved : goal.loop-preserved
+loop-preserved c = walk_more c.loop.invariant c.loop-test.true c.in_ok-from.ensures
 
-pub enum_told-1 : goal.enum_told-1
-enum_told-1 c = search walks
-
-pub cause-cause-requires : goal.cause-cause-requires
-cause-cause-requires c = search walks
-
-pub returns-in_default : goal.returns-in_default
-returns-in_default c = search walks
-
-pub overflow_sub-left : goal.overflow_sub-left
-overflow_sub-left c = search walks
-
-pub loop-left-smaller : goal.loop-left-smaller
-loop-left-smaller c = search walks
-
-pub loop-left-preserved : goal.loop-left-preserved
-loop-left-preserved c = search walks
-
-pub returns-then-at-s : goal.returns-then-at-s
-returns-then-at-s c = search walks
+pub returns-then-from-s : goal.returns-then-from-s
+returns-then-from-s c = search walks
 
 pub returns : goal.returns
 returns c = search walks

@@ -1,8 +1,5 @@
 use Rattle.relleb_read.proofs.PassNeeds.{Walking}
 use Rattle.relleb_read.proofs.walk.Given as goal
 
-abbrev pub invariant-loop-left : goal.invariant-loop-left
-invariant-loop-left l = Walking l.strict l.width l.s l.count l.first l.left l.at
-
-abbrev pub decreases-loop-left : goal.decreases-loop-left
-decreases-loop-left l = l.left
+abbrev pub invariant-loop : goal.invariant-loop
+invariant-loop l = Walking l.strict l.width l.s l.count l.first l.counter l.from

@@ -3,7 +3,7 @@ use mathlib.Core.Path.{◌≡◌, sym, ◌∙◌}
 use native.Mathlib.Omega.{arith}
 use borrow.Author.Tests.{eq-eqb}
 use Rattle.answer.specs.Bytes.{bytes_of_law}
-use Rattle.relleb_read.proofs.EntryNeeds.{changes_lax, changes_past, changes_byte}
+use Rattle.relleb_read.proofs.EntryNeeds.{changes_past, changes_byte}
 use Rattle.relleb_read.proofs.zero_at.Goals as goal
 
 pub returns-then-at-s : goal.returns-then-at-s
@@ -13,6 +13,3 @@ returns-then-at-s c =
 
 pub returns-else-at-s : goal.returns-else-at-s
 returns-else-at-s c = λ h. changes_past _ _ c.args.strict c.if-at-s.false
-
-pub returns-else-strict : goal.returns-else-strict
-returns-else-strict c = λ h. changes_lax _ _ c.args.strict c.if-strict.false
