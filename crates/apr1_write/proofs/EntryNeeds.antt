@@ -95,8 +95,10 @@ module _ {l : List ℕ} {f y d i x : ℕ} (h : Countable l f y d) (g : Counting 
         stop = rw (← g.reach, j) s;
       })
 
-  pub count_end : length l ≤ i → Run l f y d (i - f)
-  count_end e = stopped (subst (Stops x d) (sym (drop_of_length-le l e)) tt)
+  pub count_end : length l ≤ i → Run l f y d (length l - f)
+  count_end e =
+      let q : i - f ≡ length l - f = omega (arith, g.within) in
+      subst (Run l f y d) q (stopped (subst (Stops x d) (sym (drop_of_length-le l e)) tt))
 
   module _ {z : ℕ} (il : i < length l) (ze : z ≡ get_or l i 0) where
     next : drop i l ≡ z ∷ drop (i + 1) l

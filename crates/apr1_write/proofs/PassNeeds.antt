@@ -14,17 +14,17 @@ use Rattle.answer.specs.declared.Answer.{Answer}
 use Rattle.answer.specs.declared.Refusal.{Refusal}
 use Rattle.answer.specs.declared.Refusal.TheVariants.{Order, Space, Limit, Empty}
 use Rattle.answer.proofs.Limits.{list_small}
-use Rattle.answer.specs.Outcome.{Outcome, accepted, refused, success, refusal, no_room, list_limit, itself, found_of, Gives, filled}
+use Rattle.answer.specs.Outcome.{Outcome, accepted, refused, success, refusal, no_room, list_limit, itself, found_of, err_at, Gives, filled}
 use Rattle.answer.specs.Outcome.Laws.{filled_self, found_accepted, gives_refused, gives_short, gives_full}
 use Rattle.answer.specs.Written.{Written, written_then, written_long}
-use Rattle.apr1_write.specs.declared.Sized.{Sized}
-use Rattle.apr1_write.specs.declared.Sized.TheVariants as sized
+use Rattle.apr1_write.specs.declared.Need.{Need}
 use Rattle.apr1_table.specs.Table.{last, Pair, pair, pair_then, pairs_from, one_pair, pair_bytes, head_of, checked, build, Rising, Writable, encode}
 use Rattle.apr1_table.specs.Inner.{Run, head_in, pairs_in, table_in}
 use Rattle.apr1_write.specs.Inner.{Countable, Sizable, Sizes, Puttable, PairsPut, Encodable, TablePut, SizesIn}
 use Rattle.apr1_table.proofs.Pairs.{one_most, pair_bytes_none, pair_bytes_append, pair_bytes_more, head_most, table_bytes_law, checked_space, checked_order, checked_more, rising_rest, build_none, from_head, build_is, step_checked, step_rising, step_pairs}
 use Rattle.apr1_table.proofs.RoundTrip.{encode_over, encode_in, encode_accepts}
-use Rattle.std.specs.Prelude.{Ok}
+use Rattle.std.specs.Prelude.{Result, Ok, Err}
+use Rattle.answer.specs.declared.Refused.{Refused}
 
 -- ---- a run of k more equal gaps, which either pass counts
 module _ {l : List ℕ} {from y d k : ℕ} (r : Run l from y d k) where
@@ -143,7 +143,7 @@ module _ {l : List ℕ} {a i x n b : ℕ} (s : Sizable l) (g : Sizing l a i x n 
     pub size_total : {t : ℕ} → t ≡ length (head_of n a) → Fits w64 (t + b)
     size_total e = record { fits = omega (arith, head_most n a (omega (arith, g.few, g.within, s.few, list_small)) (omega (arith, g.first)), g.small, g.within, s.few, list_small) }
 
-    pub size_end : {t : ℕ} → t ≡ length (head_of n a) → SizesIn l (sized.Table n (t + b))
+    pub size_end : {t : ℕ} → t ≡ length (head_of n a) → SizesIn l (Ok (record { pairs = n; bytes = t + b }))
     size_end e =
         let c : n ≡ length (pairs_in l) = rw done g.counted in (
           c,
@@ -260,10 +260,10 @@ pub ruleset fills = (fill_head, fill_rest, fill_all, rules)
 
 -- ---- any list
 module _ (l : List ℕ) where
-  pub measure_over : list_limit < length l → Sizes l (sized.Refused Limit 0)
+  pub measure_over : list_limit < length l → Sizes l (err_at Limit 0)
   measure_over h = encode_over l h
 
-  pub measure_empty : length l < 1 → Sizes l (sized.Refused Empty 0)
+  pub measure_empty : length l < 1 → Sizes l (err_at Empty 0)
   measure_empty h = encode_in l (omega arith) ∙ none l h
     where
       none : (m : List ℕ) → length m < 1 → build m ≡ refused Empty 0
@@ -274,36 +274,33 @@ module _ (l : List ℕ) where
     pub measure_sizable : Sizable l
     measure_sizable = record { some = some; few = few }
 
-    pub measure_in : (r : Sized) → SizesIn l r → Sizes l r
-    measure_in (sized.Table n b) s = (s.0, s.1, record { few = few; some = some; rising = s.2 })
-    measure_in (sized.Refused w p) s = encode_in l few ∙ s
+    pub measure_in : (r : Result Need Refused) → SizesIn l r → Sizes l r
+    measure_in (Ok t) s = (s.0, s.1, record { few = few; some = some; rising = s.2 })
+    measure_in (Err e) s = encode_in l few ∙ s
 
 pub ruleset measures = (measure_over, measure_empty, measure_sizable, measure_in, rules)
 
--- ---- a write: r is what the first pass found
-module _ (l old : List ℕ) {r : Sized} where
-  pub write_not : {a : Answer} {w : Refusal} {p : ℕ} → Sizes l r → r ≡ sized.Refused w p → a ≡ refusal w p → Gives (encode l) old a old
-  write_not s e q = gives_refused old q (subst (Sizes l) e s)
+-- ---- a write: what the first pass found
+module _ (l old : List ℕ) where
+  pub write_not : {a : Answer} {e : Refused} → Sizes l (Err e) → a ≡ refusal e.why e.place → Gives (encode l) old a old
+  write_not s q = gives_refused old q s
 
-  module _ {n b : ℕ} (s : Sizes l r) (e : r ≡ sized.Table n b) where
-    is : (n ≡ length (pairs_in l)) × (b ≡ length (table_in l)) × Writable l
-    is = subst (Sizes l) e s
+  module _ {t : Need} (s : Sizes l (Ok t)) where
+    found : Ok t.bytes ≡ found_of (encode l)
+    found = sym (found_accepted (record { list = table_in l; is = encode_accepts l s.2; long = sym s.1 }))
 
-    found : Ok b ≡ found_of (encode l)
-    found = sym (found_accepted (record { list = table_in l; is = encode_accepts l is.2; long = sym is.1 }))
-
-    pub write_short : {a : Answer} → length old < b → a ≡ no_room b → Gives (encode l) old a old
+    pub write_short : {a : Answer} → length old < t.bytes → a ≡ no_room t.bytes → Gives (encode l) old a old
     write_short h q = gives_short old found refl h q
 
-    pub write_encodable : b ≤ length old → Encodable l old n
-    write_encodable h = record { writable = is.2; pairs = is.0; room = omega (arith, is.1) }
+    pub write_encodable : t.bytes ≤ length old → Encodable l old t.pairs
+    write_encodable h = record { writable = s.2; pairs = s.0; room = omega (arith, s.1) }
 
-    pub write_full : {a : Answer} {new : List ℕ} → b ≤ length old → TablePut l old new → a ≡ success b → Gives (encode l) old a new
+    pub write_full : {a : Answer} {new : List ℕ} → t.bytes ≤ length old → TablePut l old new → a ≡ success t.bytes → Gives (encode l) old a new
     write_full {new = new} h u q =
-        let m : length (table_in l) ≤ length old = omega (arith, is.1) in
+        let m : length (table_in l) ≤ length old = omega (arith, s.1) in
         let z : 0 + length (table_in l) ≤ length old = omega arith in
         let k : 0 + length (table_in l) ≡ length (table_in l) = omega arith in
-        let f : new ≡ filled itself (encode l) old = u ∙ sets-eq (table_in l) old 0 z ∙ rw k (sym (filled_self old (encode_accepts l is.2) m)) in
+        let f : new ≡ filled itself (encode l) old = u ∙ sets-eq (table_in l) old 0 z ∙ rw k (sym (filled_self old (encode_accepts l s.2) m)) in
         gives_full old found refl h f q
 
 pub ruleset writes = (write_not, write_short, write_encodable, write_full, rules)

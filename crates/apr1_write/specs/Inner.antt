@@ -1,11 +1,11 @@
 -- What the inner functions promise.
 -- Assumes nothing.
-use Rattle.std.specs.Prelude.{ℕ, ◌+◌, ◌≤◌, ◌<◌, ◌≡◌, List, length}
+use Rattle.std.specs.Prelude.{ℕ, ◌+◌, ◌≤◌, ◌<◌, ◌≡◌, List, length, Result, Ok, Err}
 use Rattle.std.proofs.lemmas.List.Edits.{sets}
+use Rattle.answer.specs.declared.Refused.{Refused}
 use Rattle.answer.specs.Outcome.{refused, list_limit}
 use Rattle.apr1_table.specs.Table.{last, pair_bytes, build, Rising, Writable, encode}
-use Rattle.apr1_write.specs.declared.Sized.{Sized}
-use Rattle.apr1_write.specs.declared.Sized.TheVariants as sized
+use Rattle.apr1_write.specs.declared.Need.{Need}
 use Rattle.apr1_table.specs.Inner.{pairs_in, table_in}
 
 -- a run may be counted: its first offset and its gap are inside the space
@@ -20,14 +20,14 @@ pub record Sizable (l : List ℕ) : Type 0 where
   pub few : length l ≤ list_limit
 
 -- what the first pass finds in such a list
-abbrev pub SizesIn : List ℕ → Sized → Type 0
-SizesIn l (sized.Table n b) = (n ≡ length (pairs_in l)) × (b ≡ length (table_in l)) × Rising 0 l
-SizesIn l (sized.Refused why p) = build l ≡ refused why p
+abbrev pub SizesIn : List ℕ → Result Need Refused → Type 0
+SizesIn l (Ok t) = (t.pairs ≡ length (pairs_in l)) × (t.bytes ≡ length (table_in l)) × Rising 0 l
+SizesIn l (Err e) = build l ≡ refused e.why e.place
 
 -- what is found in any list: the number of its pairs and the bytes of its table, or its refusal
-abbrev pub Sizes : List ℕ → Sized → Type 0
-Sizes l (sized.Table n b) = (n ≡ length (pairs_in l)) × (b ≡ length (table_in l)) × Writable l
-Sizes l (sized.Refused why p) = encode l ≡ refused why p
+abbrev pub Sizes : List ℕ → Result Need Refused → Type 0
+Sizes l (Ok t) = (t.pairs ≡ length (pairs_in l)) × (t.bytes ≡ length (table_in l)) × Writable l
+Sizes l (Err e) = encode l ≡ refused e.why e.place
 
 -- a list that can be written, and room for its pairs at a place
 pub record Puttable (l table : List ℕ) (at : ℕ) : Type 0 where

@@ -7,14 +7,14 @@ ghost use Rattle.apr1_table.specs.Inner.{Run};
 ghost use Rattle.apr1_write.specs.Inner.{Countable, Sizable, SizesIn, Sizes, Puttable, PairsPut, Encodable, TablePut};
 ghost use Rattle.answer.specs.Written.{Written};
 
-use answer::Refusal;
+use answer::{Refusal, Refused};
 use apr1_table::LAST;
 
-// The pairs and the bytes of a table, or the first bad offset.
+// What a table takes: so many pairs, and so many bytes.
 #[derive(Clone, Copy)]
-pub enum Sized {
-    Table(u64, u64),
-    Refused(Refusal, u64),
+pub struct Need {
+    pub pairs: u64,
+    pub bytes: u64,
 }
 
 // How many offsets from an index on follow y, each d above the one before.
@@ -22,9 +22,8 @@ fn run_from(offsets: &[u64], from: usize, y: u64, d: u64) -> usize
     requires { Countable offsets.now from y d }
     ensures { Run offsets.now from y d result }
 {
-    let mut i = from;
     let mut x = y;
-    while i < offsets.len() {
+    for i in from..offsets.len() {
         let z = offsets[i];
         if LAST < z {
             return i - from;
@@ -37,9 +36,8 @@ fn run_from(offsets: &[u64], from: usize, y: u64, d: u64) -> usize
             return i - from;
         }
         x = z;
-        i += 1;
     }
-    i - from
+    offsets.len() - from
 }
 
 // The bytes of a pair.
@@ -72,14 +70,17 @@ fn put_head(table: &mut [u8], n: u64, a: u64) -> usize
     put_pair(&mut *table, at, n, a)
 }
 
-// The first pass, over a list that is neither empty nor too long.
-fn size(offsets: &[u64]) -> Sized
+// The first pass, over a list that is neither empty nor too long: the pairs and the bytes, or the first bad offset.
+fn size(offsets: &[u64]) -> Result<Need, Refused>
     requires { Sizable offsets.now }
     ensures { SizesIn offsets.now result }
 {
     let a = offsets[0];
     if LAST < a {
-        return Sized::Refused(Refusal::Space, 0);
+        return Err(Refused {
+            why: Refusal::Space,
+            place: 0,
+        });
     }
     let mut i: usize = 1;
     let mut x = a;
@@ -88,10 +89,16 @@ fn size(offsets: &[u64]) -> Sized
     while i < offsets.len() {
         let y = offsets[i];
         if LAST < y {
-            return Sized::Refused(Refusal::Space, i as u64);
+            return Err(Refused {
+                why: Refusal::Space,
+                place: i as u64,
+            });
         }
         if y <= x {
-            return Sized::Refused(Refusal::Order, i as u64);
+            return Err(Refused {
+                why: Refusal::Order,
+                place: i as u64,
+            });
         }
         let d = y - x;
         let k = run_from(offsets, i + 1, y, d);
@@ -100,18 +107,27 @@ fn size(offsets: &[u64]) -> Sized
         x = y + (k as u64) * d;
         i = i + 1 + k;
     }
-    Sized::Table(pairs, (head_len(pairs, a) + bytes) as u64)
+    Ok(Need {
+        pairs,
+        bytes: (head_len(pairs, a) + bytes) as u64,
+    })
 }
 
 // The pairs and the bytes of any list's table, or the refusal.
-pub fn measure(offsets: &[u64]) -> Sized
+pub fn measure(offsets: &[u64]) -> Result<Need, Refused>
     ensures { Sizes offsets.now result }
 {
     if answer::LIST_LIMIT < offsets.len() {
-        return Sized::Refused(Refusal::Limit, 0);
+        return Err(Refused {
+            why: Refusal::Limit,
+            place: 0,
+        });
     }
     if offsets.len() < 1 {
-        return Sized::Refused(Refusal::Empty, 0);
+        return Err(Refused {
+            why: Refusal::Empty,
+            place: 0,
+        });
     }
     size(offsets)
 }

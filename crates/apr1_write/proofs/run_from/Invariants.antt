@@ -1,10 +1,5 @@
 use Rattle.apr1_write.proofs.EntryNeeds.{Counting}
-use lib.ListN.{length}
-use Prim.Native.Nat.{◌-◌}
 use Rattle.apr1_write.proofs.run_from.Given as goal
 
 abbrev pub invariant-loop-i : goal.invariant-loop-i
 invariant-loop-i l = Counting l.offsets l.from l.y l.d l.i l.x
-
-abbrev pub decreases-loop-i : goal.decreases-loop-i
-decreases-loop-i l = length l.offsets - l.i
