@@ -1,5 +1,4 @@
--- The needs of the readers of a record and of the head, as the code asks them: what a callee returned is r, with what its contract says of r
--- and what the match found r to be.
+-- The needs of the readers of a record and of the head, as the code asks them: what a callee's contract says of what it read or refused.
 -- Assumes nothing.
 use Prim.Native.Nat.{ℕ}
 use mathlib.Core.Path.{◌≡◌, refl, ap, ap₂, sym, ◌∙◌}

@@ -7,10 +7,11 @@ use mathlib.Core.List.{List}
 use lib.IntN.{ℤ, pos, negsuc}
 use lib.ListN.{length}
 use native.Mathlib.Omega.{arith}
+use Rattle.std.specs.Prelude.{Ok, Err}
 use Rattle.answer.specs.Bytes.{Bytes}
-use Rattle.answer.specs.Outcome.{input_limit, list_limit}
+use Rattle.answer.specs.Outcome.{input_limit, list_limit, err_at}
 use Rattle.answer.specs.Said.{OfOutcome, OfList, AtMost, Bounded, of_cond, of_limited, of_after, list_of, list_map, list_limited}
-use Rattle.leb128.specs.Number.{read_signed}
+use Rattle.leb128.specs.Number.{read_signed, Signed}
 use Rattle.leb128.proofs.Setting.{signed_value, signed_place}
 use Rattle.records.specs.Identifier.{starts_with}
 use Rattle.records.specs.Writing.{puts}
@@ -20,9 +21,6 @@ use Rattle.apa1_table.specs.Table.{Row, start, identifier, second_of, first_of, 
 use Rattle.apa1_table.specs.Table.Laws.{build_is}
 use Rattle.apa1_table.proofs.RoundTrip.{encode_most, encode_legal}
 use Rattle.apa1_table.proofs.Refusals.{of_parse}
-use Rattle.std.specs.Prelude.{Ok, Err}
-use Rattle.answer.specs.Outcome.{err_at}
-use Rattle.leb128.specs.Number.{Signed}
 
 module _ (strict : Bool) (s : List ℕ) where
   -- a record has at least two bytes
@@ -47,8 +45,8 @@ module _ (strict : Bool) (s : List ℕ) where
 
   count_ends : (strict : Bool) (u : Signed) → Ends (length s) (count_of u (read_signed strict 64 s (length identifier)))
   unfolding count_of
-  count_ends strict (Ok ((pos n), next)) = plain_ends strict (read_signed strict 64 s (length identifier)) refl
-  count_ends strict (Ok ((negsuc n), next)) = tt
+  count_ends strict (Ok (pos n, next)) = plain_ends strict (read_signed strict 64 s (length identifier)) refl
+  count_ends strict (Ok (negsuc n, next)) = tt
   count_ends strict (Err e) = tt
 
   head_ends : Ends (length s) (head_at strict s)

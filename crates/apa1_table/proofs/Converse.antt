@@ -8,10 +8,11 @@ use native.Mathlib.Omega.{arith}
 use lib.IntN.{ℤ, pos, negsuc, ◌+ℤ◌, ◌-ℤ◌}
 use lib.ListN.{length, drop}
 use lib.Signed.{mag}
+use Rattle.std.specs.Prelude.{Ok, Err}
 use Rattle.answer.specs.Bytes.{Bytes}
 use Rattle.answer.specs.declared.Refusal.TheVariants.{Identifier}
-use Rattle.answer.specs.Outcome.{accepted, list_limit}
-use Rattle.leb128.specs.Number.{read_signed, short_signed}
+use Rattle.answer.specs.Outcome.{accepted, list_limit, err_at}
+use Rattle.leb128.specs.Number.{read_signed, short_signed, Signed, ok_at}
 use Rattle.leb128.proofs.Setting.{lax_signed_law, read_lax_signed, signed_value}
 use Rattle.leb128.proofs.Reading.{ok_parts}
 use Rattle.leb128.proofs.Strict.{strict_signed}
@@ -26,9 +27,6 @@ use Rattle.wrap.specs.Wrap.Laws.{residue_lt, residue_small, residue_wrapped, for
 use Rattle.apa1_table.specs.Table.{Row, row, start, identifier, second_of, first_of, step_at, plain, count_of, head_at, decode, rows, entry_bytes, put_of, behind, head_of, build, encode}
 use Rattle.apa1_table.specs.Table.Laws.{parse_is, decode_accepted, build_is, encode_in, head_bytes, entry_bytes_law}
 use Rattle.apa1_table.specs.Contract.{offset_of, addend_of}
-use Rattle.std.specs.Prelude.{Ok, Err}
-use Rattle.answer.specs.Outcome.{err_at}
-use Rattle.leb128.specs.Number.{Signed, ok_at}
 
 module _ (s : List ℕ) (bytes : Bytes s) where
   -- ---- a record: its differences are the numbers that stand there
@@ -69,13 +67,13 @@ module _ (s : List ℕ) (bytes : Bytes s) where
   count_forth : {n first : ℕ} (u v : Signed) → read_signed false 64 s (length identifier) ≡ u → read_signed true 64 s (length identifier) ≡ v → count_of u v ≡ ok_at n first
       → read_signed true 64 s (length identifier) ≡ ok_at (pos n) first
   unfolding count_of plain
-  count_forth {n} {first} (Ok ((pos m), p)) (Ok (z, q)) e f g =
+  count_forth {n} {first} (Ok (pos m, p)) (Ok (z, q)) e f g =
       let l : ok_at (pos m) p ≡ ok_at z q = sym e ∙ lax_signed_law 64 s (length identifier) ∙ read_lax_signed true 64 s (length identifier) f in
       let (k, _) = ok_parts l in
       let (h, o) = ok_parts {v = mag z} {w = n} {n = q} {m = first} g in
       f ∙ ap₂ ok_at (sym k ∙ ap pos (ap mag k ∙ h)) o
-  count_forth (Ok ((pos m), p)) (Err x) e f g = let z : ◌≡◌ {A = ℕ} 0 1 = cc in absurd (omega arith)
-  count_forth (Ok ((negsuc m), p)) v e f g = let z : ◌≡◌ {A = ℕ} 0 1 = cc in absurd (omega arith)
+  count_forth (Ok (pos m, p)) (Err x) e f g = let z : ◌≡◌ {A = ℕ} 0 1 = cc in absurd (omega arith)
+  count_forth (Ok (negsuc m, p)) v e f g = let z : ◌≡◌ {A = ℕ} 0 1 = cc in absurd (omega arith)
   count_forth (Err x) v e f g = let z : ◌≡◌ {A = ℕ} 0 1 = cc in absurd (omega arith)
 
   head_forth : {n first : ℕ} → head_at true s ≡ ok_at n first → s ≡ head_of n ++ drop first s

@@ -6,15 +6,14 @@ use mathlib.Core.Path.{◌≡◌, refl}
 use mathlib.Core.List.{List}
 use lib.IntN.{ℤ, pos, negsuc}
 use lib.ListN.{length}
+use Rattle.std.specs.Prelude.{Ok, Err}
 use Rattle.answer.specs.declared.Refusal.TheVariants.{Identifier, Width, Trailing}
 use Rattle.answer.specs.Said.{Said, OfOutcome, of_cond}
-use Rattle.leb128.specs.Number.{read_signed}
+use Rattle.answer.specs.Outcome.{err_at}
+use Rattle.leb128.specs.Number.{read_signed, Signed, ok_at}
 use Rattle.records.specs.Identifier.{starts_with}
 use Rattle.records.proofs.Refusals.{OfUnsigned, OfSigned, OfStep, of_counted}
 use Rattle.apa1_table.specs.Table.{Row, start, identifier, second_of, first_of, step_at, plain, count_of, head_at, parse}
-use Rattle.std.specs.Prelude.{Ok, Err}
-use Rattle.answer.specs.Outcome.{err_at}
-use Rattle.leb128.specs.Number.{Signed, ok_at}
 
 module _ (P : Said) (strict : Bool) (s : List ℕ) (named : P Identifier 0) (number : (strict : Bool) (at : ℕ) → OfSigned P (read_signed strict 64 s at))
     (negative : (n next : ℕ) → read_signed false 64 s (length identifier) ≡ ok_at (negsuc n) next → P Width (length identifier)) (over : (at : ℕ) → at < length s → P Trailing at) where
@@ -39,8 +38,8 @@ module _ (P : Said) (strict : Bool) (s : List ℕ) (named : P Identifier 0) (num
 
   counts : (u v : Signed) → read_signed false 64 s (length identifier) ≡ u → OfSigned P u → OfSigned P v → OfUnsigned P (count_of u v)
   unfolding count_of
-  counts (Ok ((pos n), next)) v e h k = plains v k
-  counts (Ok ((negsuc n), next)) v e h k = negative n next e
+  counts (Ok (pos n, next)) v e h k = plains v k
+  counts (Ok (negsuc n, next)) v e h k = negative n next e
   counts (Err x) v e h k = h
 
   head : OfUnsigned P (head_at strict s)

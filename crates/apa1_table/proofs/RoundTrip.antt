@@ -12,7 +12,7 @@ use Rattle.answer.proofs.Limits.{list_most, list_small}
 use Rattle.answer.specs.Outcome.{accepted, input_limit, list_limit}
 use Rattle.answer.specs.Outcome.Laws.{Accepts}
 use Rattle.answer.specs.Outcome.Laws as Outcome
-use Rattle.leb128.specs.Number.{read_signed, short_signed}
+use Rattle.leb128.specs.Number.{read_signed, short_signed, ok_at}
 use Rattle.records.specs.Columns.{Each}
 use Rattle.records.specs.Columns.Laws.{At, each_of, column_of}
 use Rattle.records.specs.Identifier.{starts_with}
@@ -27,7 +27,6 @@ use Rattle.wrap.specs.Wrap.Laws.{wrapped_range, back_residue, back_wrapped, resi
 use Rattle.apa1_table.specs.Table.{Row, row, start, identifier, step_at, plain, head_at, parse, decode, rows, entry_bytes, put_of, behind, head_of, build, encode}
 use Rattle.apa1_table.specs.Table.Laws.{step_is, head_is, count_other, plain_is, parse_is, decode_in, rows_length, rows_from_law, build_is, encode_in, encode_accepted, head_bytes, entry_bytes_law, entry_most, head_most}
 use Rattle.apa1_table.specs.Contract.{offset_of, addend_of}
-use Rattle.leb128.specs.Number.{ok_at}
 
 -- ---- every list has a table
 -- nothing is asked of a record

@@ -1,10 +1,9 @@
 -- What a refusal 5 says of a table.
 -- Assumes nothing.
 use Rattle.std.specs.Prelude.{ℕ, false, List, ◌⊎◌, ◌≡◌, negsuc, length}
-use Rattle.leb128.specs.Number.{read_signed}
+use Rattle.leb128.specs.Number.{read_signed, ok_at}
 use Rattle.leb128.specs.LastByte.{OutsideSigned}
 use Rattle.apa1_table.specs.Table.{identifier}
-use Rattle.leb128.specs.Number.{ok_at}
 
 -- the count is read, padded or not, and negative
 abbrev pub NegativeCount : List ℕ → Type 0

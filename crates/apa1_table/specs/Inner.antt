@@ -1,12 +1,11 @@
 -- What the inner functions promise.
 -- Assumes nothing.
-use Rattle.std.specs.Prelude.{ℕ, ◌≤◌, Bool, ◌≡◌, List, ℤ, length}
+use Rattle.std.specs.Prelude.{ℕ, ◌≤◌, Bool, ◌≡◌, List, ℤ, length, Result}
 use Rattle.answer.specs.Outcome.{Outcome, accepted, list_limit, found_of}
+use Rattle.answer.specs.declared.Refused.{Refused}
 use Rattle.records.specs.Reading.{Fitting}
 use Rattle.records.specs.Writing.{Fits}
 use Rattle.apa1_table.specs.Table.{Row, decode, rows, encode}
-use Rattle.std.specs.Prelude.{Result}
-use Rattle.answer.specs.declared.Refused.{Refused}
 
 -- an accepted list for which both columns have room
 pub record Fillable (o : Outcome (List Row)) (os : List ℕ) (us : List ℤ) : Type 0 where

@@ -1,18 +1,15 @@
 -- APA1, the 64-bit packed table of offsets with addends: what its bytes say, and the bytes of its records.
 -- Assumes nothing.
-use Rattle.std.specs.Prelude.{ℕ, List, [], ◌∷◌, ◌++◌, map, Bool, false, cond, ℤ, pos, negsuc, ◌+ℤ◌, ◌-ℤ◌, length}
+use Rattle.std.specs.Prelude.{ℕ, List, [], ◌∷◌, ◌++◌, map, Bool, false, cond, ℤ, pos, negsuc, ◌+ℤ◌, ◌-ℤ◌, length, Ok, Err}
 use Rattle.std.specs.Int.Signed.{mag}
 use Rattle.answer.specs.declared.Refusal.TheVariants.{Identifier, Width}
-use Rattle.answer.specs.Outcome.{Outcome, input_limit, list_limit, limited, after}
-use Rattle.leb128.specs.Number.{read_signed, short_signed}
+use Rattle.answer.specs.Outcome.{Outcome, input_limit, list_limit, limited, after, err_at}
+use Rattle.leb128.specs.Number.{read_signed, short_signed, Unsigned, Signed, ok_at}
 use Rattle.records.specs.Columns.{zipped}
 use Rattle.records.specs.Identifier.{starts_with}
 use Rattle.records.specs.Reading.{Step, one, none, counted}
 use Rattle.records.specs.Writing.{Put, bytes, puts}
 use Rattle.wrap.specs.Wrap.{residue, wrapped}
-use Rattle.std.specs.Prelude.{Ok, Err}
-use Rattle.answer.specs.Outcome.{err_at}
-use Rattle.leb128.specs.Number.{Unsigned, Signed, ok_at}
 pub mod Laws
 pub mod Setting
 
@@ -58,8 +55,8 @@ plain (Err e) = Err e
 
 -- a count, by lax reading and by the setting: it may not be negative, which is refused at its first byte, also where the number is padded
 unfoldable pub count_of : Signed → Signed → Unsigned
-count_of (Ok ((pos n), first)) u = plain u
-count_of (Ok ((negsuc n), first)) u = err_at Width (length identifier)
+count_of (Ok (pos n, first)) u = plain u
+count_of (Ok (negsuc n, first)) u = err_at Width (length identifier)
 count_of (Err e) u = Err e
 
 -- the identifier and the count: a signed number of 64 bits

@@ -10,11 +10,11 @@ use mir.Syntax.{w64}
 use mir.Val.{to_z, of_z, Fits}
 use mir.Facts.{to_z_pos}
 use borrow.Author.Rules.{rules}
+use Rattle.answer.specs.Written.{Written, written_then}
 use Rattle.leb128.specs.Number.{short_signed}
 use Rattle.wrap.specs.Wrap.{wrapped}
 use Rattle.apa1_table.specs.Table.{row, identifier, entry_bytes, head_of}
 use Rattle.apa1_table.specs.Table.Laws.{entry_bytes_law, entry_most, head_bytes, head_most}
-use Rattle.answer.specs.Written.{Written, written_then}
 
 -- a signed number as the code passes it on: by its bits
 abbrev Bits : ℤ → ℤ

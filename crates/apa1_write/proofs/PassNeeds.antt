@@ -12,9 +12,10 @@ use mir.Val.{to_z, of_z, Fits}
 use mir.Facts.{to_z-of_z}
 use borrow.Author.Count.{below_more}
 use borrow.Author.Rules.{rules, sfits_of}
+use Rattle.std.specs.Prelude.{Ok}
 use Rattle.answer.specs.declared.Refusal.TheVariants.{Limit}
 use Rattle.answer.proofs.Limits.{list_small}
-use Rattle.answer.specs.Outcome.{Outcome, list_limit, after, found_of}
+use Rattle.answer.specs.Outcome.{Outcome, list_limit, after, found_of, err_at}
 use Rattle.answer.specs.Outcome.Laws.{accepted_refused, found_refused}
 use Rattle.answer.specs.Written.{Written}
 use Rattle.records.specs.Writing as Writing
@@ -24,8 +25,6 @@ use Rattle.apa1_table.specs.Table.{row, start, rows, entry_bytes, put_of, behind
 use Rattle.apa1_table.specs.Table.Laws.{rows_length, rows_from_law, build_is, encode_over, encode_in, encode_accepted, entry_most, head_most}
 use Rattle.apa1_table.proofs.RoundTrip.{decode_encode, rows_fine}
 use Rattle.apa1_table.specs.Inner.{Listed, Measures, Puttable}
-use Rattle.std.specs.Prelude.{Ok}
-use Rattle.answer.specs.Outcome.{err_at}
 
 -- a signed number as the code passes it on: by its bits
 abbrev Bits : ℤ → ℤ

@@ -1,20 +1,19 @@
 -- The cases of a call's outcome, and what each makes of the contract.
 -- Assumes nothing.
-use Rattle.std.specs.Prelude.{ℕ, ◌≤◌, ◌<◌, Bool, false, ◌≡◌, List, eqb, ℤ, length}
+use Rattle.std.specs.Prelude.{ℕ, ◌≤◌, ◌<◌, Bool, false, ◌≡◌, List, eqb, ℤ, length, Result, Ok, Err}
 use Rattle.std.proofs.Common.{ap, sym, ◌∙◌, arith, rules, eq-eqb, ne_eqb, eqb-true}
 use Rattle.answer.specs.declared.Answer.{Answer}
 use Rattle.answer.specs.declared.Refusal.{Refusal}
 use Rattle.answer.specs.declared.Refusal.TheVariants.{Columns}
 use Rattle.answer.specs.Outcome.{Outcome, accepted, refused, success, refusal, no_room, Gives, found_of, itself, filled}
 use Rattle.answer.specs.Outcome.Laws.{accepted_refused, cond_accepted, answer_fits, answer_long, answer_refused, filled_long, filled_refused, Counted, found_count, not_found, gives_refused, gives_not, gives_short, gives_full, gives_zero}
+use Rattle.answer.specs.declared.Refused.{Refused}
 use Rattle.records.specs.Writing.{Fits, Puts}
 use Rattle.records.proofs.Writing.{puts_filled}
 use Rattle.apa1_table.specs.Table.{Row, decode, rows, encode}
 use Rattle.apa1_table.specs.Table.Setting.{decode_lax}
 use Rattle.apa1_table.specs.Contract.{offset_of, addend_of, decoding, Filled, Reads, encoding, Writes}
 use Rattle.apa1_table.specs.Inner.{Fillable, Measures}
-use Rattle.std.specs.Prelude.{Result, Ok, Err}
-use Rattle.answer.specs.declared.Refused.{Refused}
 
 -- ---- reading
 module _ (strict : Bool) (s : List ℕ) (m k : ℕ) where

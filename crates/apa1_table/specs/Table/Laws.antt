@@ -7,20 +7,18 @@ use Rattle.std.specs.Int.Signed.{mag}
 use Rattle.std.proofs.lemmas.List.{length-map}
 use Rattle.answer.specs.declared.Refusal.{Refusal}
 use Rattle.answer.specs.declared.Refusal.TheVariants.{Limit, Identifier, Width}
-use Rattle.answer.specs.Outcome.{accepted, refused, input_limit, list_limit, after}
+use Rattle.answer.specs.Outcome.{accepted, refused, input_limit, list_limit, after, err_at}
 use Rattle.answer.specs.Outcome.Laws.{limited_over, limited_in, limited_accepted}
-use Rattle.leb128.specs.Number.{read_signed, short_signed, is_neg}
+use Rattle.leb128.specs.Number.{read_signed, short_signed, is_neg, Signed, ok_at}
+use Rattle.leb128.proofs.RoundTrip.{signed_bytes}
 use Rattle.records.specs.Columns.Laws.{from, map_from, zipped_from, zipped_length}
 use Rattle.records.specs.Identifier.{starts_with}
 use Rattle.records.specs.Reading.{one, none, counted}
 use Rattle.records.specs.Reading.Laws.{counted_not}
 use Rattle.records.specs.Writing.{puts}
-use Rattle.leb128.proofs.RoundTrip.{signed_bytes}
 use Rattle.wrap.specs.Wrap.{residue, wrapped}
 use Rattle.wrap.specs.Wrap.Laws.{wrapped_range}
 use Rattle.apa1_table.specs.Table.{Row, row, start, identifier, second_of, first_of, step_at, plain, count_of, head_at, parse, decode, rows, entry_bytes, put_of, behind, head_of, build, encode}
-use Rattle.answer.specs.Outcome.{err_at}
-use Rattle.leb128.specs.Number.{Signed, ok_at}
 
 -- ---- a record
 module _ (strict : Bool) (s : List ℕ) (at : ℕ) (prev : Row) where

@@ -1,24 +1,21 @@
 -- What a setting makes of a table: what lax reading does, unless it refuses a number longer than its shortest form.
 -- Assumes nothing.
-use Rattle.std.specs.Prelude.{ℕ, ◌≡◌, Bool, List, pos, negsuc, leb}
+use Rattle.std.specs.Prelude.{ℕ, ◌≡◌, Bool, List, pos, negsuc, leb, Ok, Err}
 use Rattle.std.proofs.Math.Path.{refl}
 use Rattle.std.proofs.Common.{sym, ◌∙◌}
 use Rattle.std.proofs.Math.Bool.{false}
 use Rattle.std.proofs.Math.ListN.{length}
 use Rattle.answer.specs.declared.Refusal.TheVariants.{Limit, Identifier, Padded}
-use Rattle.answer.specs.Outcome.{accepted, refused, input_limit}
+use Rattle.answer.specs.Outcome.{accepted, refused, input_limit, err_at}
 use Rattle.answer.specs.Said.{Said}
 use Rattle.answer.specs.Unless.{Unless, same, unless_then, unless_cond, unless_accepted}
-use Rattle.leb128.specs.Number.{read_signed}
+use Rattle.leb128.specs.Number.{read_signed, Signed}
 use Rattle.leb128.specs.Longer.{LongerSigned}
 use Rattle.leb128.proofs.Setting.{unless_signed}
 use Rattle.records.specs.Identifier.{starts_with}
 use Rattle.records.specs.Reading.{none}
 use Rattle.records.proofs.Unless.{unless_counted}
 use Rattle.apa1_table.specs.Table.{Row, start, identifier, second_of, first_of, step_at, plain, count_of, head_at, parse, decode}
-use Rattle.std.specs.Prelude.{Ok, Err}
-use Rattle.answer.specs.Outcome.{err_at}
-use Rattle.leb128.specs.Number.{Signed}
 
 -- a number longer than its shortest form is refused, at its first byte
 abbrev pub Spelled : List ℕ → Said
@@ -41,8 +38,8 @@ module _ (strict : Bool) (s : List ℕ) where
 
   count : (u v w : Signed) → Unless err_at (Spelled s) v w → Unless err_at (Spelled s) (count_of u v) (count_of u w)
   unfolding count_of plain
-  count (Ok ((pos n), first)) v w h = unless_then err_at err_at (Spelled s) plain plain (λ why p. refl) (λ u. same refl) v w h
-  count (Ok ((negsuc n), first)) v w h = same refl
+  count (Ok (pos n, first)) v w h = unless_then err_at err_at (Spelled s) plain plain (λ why p. refl) (λ u. same refl) v w h
+  count (Ok (negsuc n, first)) v w h = same refl
   count (Err e) v w h = same refl
 
   head : Unless err_at (Spelled s) (head_at strict s) (head_at false s)
