@@ -14,8 +14,7 @@ use Rattle.answer.specs.declared.Refusal.{Refusal}
 use Rattle.answer.specs.Written.{Written, written_then}
 use Rattle.leb128.specs.Number.{read_unsigned, short_unsigned, short_signed}
 use Rattle.leb128.proofs.Setting.{unsigned_value}
-use Rattle.cases.specs.U32.{word_of, read_u32}
-use Rattle.cases.specs.declared.leb.Word.TheVariants.{Value, Refused}
+use Rattle.cases.specs.U32.{read_u32}
 use Rattle.answer.specs.declared.Refused.{Refused}
 use Rattle.answer.specs.Outcome.{err_at}
 use Rattle.leb128.specs.Number.{Unsigned, ok_at}
@@ -24,11 +23,8 @@ module _ (s : List ℕ) (at : ℕ) {r : Unsigned} (e : r ≡ read_unsigned false
   pub value_fits : {v next : ℕ} → r ≡ ok_at v next → Fits w32 v
   value_fits f = record { fits = (unsigned_value false 32 s at _ _ (sym e ∙ f)).0 }
 
-  pub value_is : {v next : ℕ} → r ≡ ok_at v next → Value v next ≡ read_u32 s at
-  value_is f = ap word_of (sym f ∙ e)
-
-  pub refusal_is : {why : Refusal} {place : ℕ} → r ≡ err_at why place → Refused why place ≡ read_u32 s at
-  refusal_is f = ap word_of (sym f ∙ e)
+  pub value_is : {v next : ℕ} → r ≡ ok_at v next → ok_at v next ≡ read_u32 s at
+  value_is f = sym f ∙ e
 
 module _ (out : List ℕ) (at x : ℕ) (y : ℤ) where
   pub room_first : at + length (short_unsigned x ++ short_signed y) ≤ length out → at + length (short_unsigned x) ≤ length out
@@ -47,4 +43,4 @@ pub room_both : {a b : ℕ} (x : ℕ) (y : ℤ) (out : List ℕ) → a ≡ lengt
     → 1 + length (short_unsigned x ++ short_signed y) ≤ length out
 room_both x y out e f h k l = omega (arith, length-append (short_unsigned x) (short_signed y))
 
-pub ruleset pairs = (value_fits, value_is, refusal_is, room_first, room_second, both_written, room_both, rules)
+pub ruleset pairs = (value_fits, value_is, room_first, room_second, both_written, room_both, rules)

@@ -5,25 +5,16 @@ ghost use Rattle.cases.specs.U32.{read_u32};
 ghost use Rattle.answer.specs.Written.{Written};
 
 use crate::text;
-use answer::Refusal;
-use leb128::{Signed, Unsigned};
+use answer::Refused;
+use std::fmt::Display;
 use std::io;
 
-// A number of 32 bits, as a u32.
-#[derive(Clone, Copy)]
-pub enum Word {
-    Value(u32, usize),
-    Refused(Refusal, usize),
-}
-
-// By the reader's laws alone: a value at width 32 fits a u32.
-fn read_u32(s: &[u8], at: usize) -> Word
+// A number of 32 bits, as a u32: by the reader's laws alone, a value at width 32 fits one.
+fn read_u32(s: &[u8], at: usize) -> Result<(u32, usize), Refused>
     ensures { result ≡ read_u32 s.now at }
 {
-    match leb128::read_unsigned(false, s, at, 32) {
-        Unsigned::Value(v, next) => Word::Value(v as u32, next),
-        Unsigned::Refused(why, place) => Word::Refused(why, place),
-    }
+    let (v, next) = leb128::read_unsigned(false, s, at, 32)?;
+    Ok((v as u32, next))
 }
 
 // By the writers' laws alone: two numbers, one after the other.
@@ -35,29 +26,11 @@ fn write_pair(out: &mut [u8], at: usize, x: u64, y: i64) -> usize
     leb128::write_signed(&mut *out, next, y)
 }
 
-fn answer_unsigned(rt: &impl Print, r: Unsigned) -> io::Result<()> {
+// What was read with the next place, or the refusal.
+fn answer<T: Display>(rt: &impl Print, r: Result<(T, usize), Refused>) -> io::Result<()> {
     match r {
-        Unsigned::Value(v, next) => {
-            text::put(rt, b" = ")?;
-            text::number(rt, v)?;
-            text::put(rt, b" next ")?;
-            text::number(rt, next as u64)?;
-            text::put(rt, b"\n")
-        }
-        Unsigned::Refused(why, place) => text::refusal(rt, why, place as u64),
-    }
-}
-
-fn answer_signed(rt: &impl Print, r: Signed) -> io::Result<()> {
-    match r {
-        Signed::Value(v, next) => {
-            text::put(rt, b" = ")?;
-            text::signed(rt, v)?;
-            text::put(rt, b" next ")?;
-            text::number(rt, next as u64)?;
-            text::put(rt, b"\n")
-        }
-        Signed::Refused(why, place) => text::refusal(rt, why, place as u64),
+        Ok((v, next)) => println!(rt; " = {v} next {next}"),
+        Err(refused) => text::refusal(rt, refused),
     }
 }
 
@@ -68,10 +41,9 @@ fn unsigned(rt: &impl Print, x: u64) -> io::Result<()> {
         return Ok(());
     }
     let end = leb128::write_unsigned(&mut room, 0, x);
-    text::put(rt, b"unsigned ")?;
-    text::number(rt, x)?;
+    print!(rt; "unsigned {x}")?;
     text::bytes(rt, &room, end)?;
-    answer_unsigned(rt, leb128::read_unsigned(true, &room, 0, 64))
+    answer(rt, leb128::read_unsigned(true, &room, 0, 64))
 }
 
 fn signed(rt: &impl Print, x: i64) -> io::Result<()> {
@@ -80,10 +52,9 @@ fn signed(rt: &impl Print, x: i64) -> io::Result<()> {
         return Ok(());
     }
     let end = leb128::write_signed(&mut room, 0, x);
-    text::put(rt, b"signed ")?;
-    text::signed(rt, x)?;
+    print!(rt; "signed {x}")?;
     text::bytes(rt, &room, end)?;
-    answer_signed(rt, leb128::read_signed(true, &room, 0, 64))
+    answer(rt, leb128::read_signed(true, &room, 0, 64))
 }
 
 // The bytes from a place on, padded or not, as a number of a width from 1 to 64 bits. Those up to `end` are shown.
@@ -94,16 +65,12 @@ fn show(rt: &impl Print, s: &[u8], at: usize, width: u32, end: usize) -> io::Res
     if 64 < width {
         return Ok(());
     }
-    text::put(rt, b"width ")?;
-    text::number(rt, width as u64)?;
-    text::put(rt, b" from ")?;
-    text::number(rt, at as u64)?;
-    text::put(rt, b":")?;
+    print!(rt; "width {width} from {at}:")?;
     text::bytes(rt, s, end)?;
     text::put(rt, b"\n  unsigned")?;
-    answer_unsigned(rt, leb128::read_unsigned(false, s, at, width))?;
+    answer(rt, leb128::read_unsigned(false, s, at, width))?;
     text::put(rt, b"  signed")?;
-    answer_signed(rt, leb128::read_signed(false, s, at, width))
+    answer(rt, leb128::read_signed(false, s, at, width))
 }
 
 fn read(rt: &impl Print, s: &[u8], at: usize, width: u32) -> io::Result<()> {
@@ -126,56 +93,32 @@ fn edge(rt: &impl Print, width: u32, digit: u8, last: u8) -> io::Result<()> {
 }
 
 fn edges(rt: &impl Print, width: u32, digit: u8) -> io::Result<()> {
-    edge(rt, width, digit, 0)?;
-    edge(rt, width, digit, 1)?;
-    edge(rt, width, digit, 2)?;
-    edge(rt, width, digit, 7)?;
-    edge(rt, width, digit, 8)?;
-    edge(rt, width, digit, 15)?;
-    edge(rt, width, digit, 16)?;
-    edge(rt, width, digit, 63)?;
-    edge(rt, width, digit, 64)?;
-    edge(rt, width, digit, 111)?;
-    edge(rt, width, digit, 112)?;
-    edge(rt, width, digit, 119)?;
-    edge(rt, width, digit, 120)?;
-    edge(rt, width, digit, 126)?;
-    edge(rt, width, digit, 127)?;
-    edge(rt, width, digit, 128)?;
-    edge(rt, width, digit, 255)
+    for last in [
+        0u8, 1, 2, 7, 8, 15, 16, 63, 64, 111, 112, 119, 120, 126, 127, 128, 255,
+    ] {
+        edge(rt, width, digit, last)?;
+    }
+    Ok(())
 }
 
 fn dwarf(rt: &impl Print) -> io::Result<()> {
-    unsigned(rt, 2)?;
-    unsigned(rt, 127)?;
-    unsigned(rt, 128)?;
-    unsigned(rt, 129)?;
-    unsigned(rt, 130)?;
-    unsigned(rt, 12857)?;
-    unsigned(rt, 624485)?;
-    signed(rt, 2)?;
-    signed(rt, -2)?;
-    signed(rt, 127)?;
-    signed(rt, -127)?;
-    signed(rt, 128)?;
-    signed(rt, -128)?;
-    signed(rt, 129)?;
-    signed(rt, -129)?;
-    signed(rt, -123456)
+    for x in [2u64, 127, 128, 129, 130, 12857, 624485] {
+        unsigned(rt, x)?;
+    }
+    for x in [2i64, -2, 127, -127, 128, -128, 129, -129, -123456] {
+        signed(rt, x)?;
+    }
+    Ok(())
 }
 
 fn bounds(rt: &impl Print) -> io::Result<()> {
-    unsigned(rt, 0)?;
-    unsigned(rt, 4294967295)?;
-    unsigned(rt, 18446744073709551615)?;
-    signed(rt, 0)?;
-    signed(rt, -1)?;
-    signed(rt, 63)?;
-    signed(rt, 64)?;
-    signed(rt, -64)?;
-    signed(rt, -65)?;
-    signed(rt, 9223372036854775807)?;
-    signed(rt, -9223372036854775808)
+    for x in [0, u32::MAX as u64, u64::MAX] {
+        unsigned(rt, x)?;
+    }
+    for x in [0, -1, 63, 64, -64, -65, i64::MAX, i64::MIN] {
+        signed(rt, x)?;
+    }
+    Ok(())
 }
 
 fn bad(rt: &impl Print) -> io::Result<()> {
@@ -204,25 +147,21 @@ fn pair(rt: &impl Print, x: u64, y: i64) -> io::Result<()> {
     text::put(rt, b"pair")?;
     text::bytes(rt, &out, end)?;
     match read_u32(&out, 1) {
-        Word::Value(v, next) => {
-            text::put(rt, b" = ")?;
-            text::number(rt, v as u64)?;
-            text::put(rt, b" and")?;
-            answer_signed(rt, leb128::read_signed(true, &out, next, 33))
+        Ok((v, next)) => {
+            print!(rt; " = {v} and")?;
+            answer(rt, leb128::read_signed(true, &out, next, 33))
         }
-        Word::Refused(why, place) => text::refusal(rt, why, place as u64),
+        Err(refused) => text::refusal(rt, refused),
     }
 }
 
 pub fn run(rt: &impl Print) -> io::Result<()> {
     dwarf(rt)?;
     bounds(rt)?;
-    edges(rt, 32, 128)?;
-    edges(rt, 32, 255)?;
-    edges(rt, 33, 128)?;
-    edges(rt, 33, 255)?;
-    edges(rt, 64, 128)?;
-    edges(rt, 64, 255)?;
+    for width in [32, 33, 64] {
+        edges(rt, width, 128)?;
+        edges(rt, width, 255)?;
+    }
     bad(rt)?;
     pair(rt, 624485, -123456)
 }

@@ -5,12 +5,7 @@ use std::io;
 use word::ByteOrder;
 
 fn answer_of(rt: &impl Print, a: Answer) -> io::Result<()> {
-    text::put(rt, b" number ")?;
-    text::number(rt, a.number as u64)?;
-    text::put(rt, b" place ")?;
-    text::number(rt, a.place)?;
-    text::put(rt, b" count ")?;
-    text::number(rt, a.count)
+    print!(rt; " number {} place {} count {}", a.number, a.place, a.count)
 }
 
 fn items(rt: &impl Print, values: &[u64]) -> io::Result<()> {
@@ -21,8 +16,7 @@ fn items(rt: &impl Print, values: &[u64]) -> io::Result<()> {
 }
 
 fn class_of(rt: &impl Print, class: u32, order: ByteOrder) -> io::Result<()> {
-    text::put(rt, b" class ")?;
-    text::number(rt, class as u64)?;
+    print!(rt; " class {class}")?;
     match order {
         ByteOrder::Little => Ok(()),
         ByteOrder::Big => text::put(rt, b" big-endian"),
@@ -58,11 +52,7 @@ fn apply_to(
 ) -> io::Result<()> {
     text::put(rt, b"relr apply")?;
     class_of(rt, class, order)?;
-    text::put(rt, b" base ")?;
-    text::number(rt, base)?;
-    text::put(rt, b" start ")?;
-    text::number(rt, start)?;
-    text::put(rt, b":")?;
+    print!(rt; " base {base} start {start}:")?;
     text::bytes(rt, table, table.len())?;
     answer_of(
         rt,

@@ -9,13 +9,7 @@ fn apa1(rt: &impl Print, table: &[u8]) -> io::Result<()> {
     let r = apa1::read(false, table, &mut offsets, &mut addends);
     text::put(rt, b"apa1")?;
     text::bytes(rt, table, table.len())?;
-    text::put(rt, b" answers ")?;
-    text::number(rt, r.number as u64)?;
-    text::put(rt, b" at ")?;
-    text::number(rt, r.place)?;
-    text::put(rt, b" count ")?;
-    text::number(rt, r.count)?;
-    text::put(rt, b"\n")
+    println!(rt; " answers {} at {} count {}", r.number, r.place, r.count)
 }
 
 pub fn run(rt: &impl Print) -> io::Result<()> {

@@ -55,7 +55,7 @@ never (but why p e h) = absurd h
 module _ (s : List ℕ) where
   first_lax : (at x : ℕ) (u : Unsigned) → Unless none Never (apr1.first_of false s at x u) (pair_first s at x u)
   unfolding apr1.first_of pair_first
-  first_lax at x (Ok (c , next)) = same (ap (apr1.second_of at x c) (lax_unsigned_law 32 s next))
+  first_lax at x (Ok (c, next)) = same (ap (apr1.second_of at x c) (lax_unsigned_law 32 s next))
   first_lax at x (Err e) = same refl
 
   pair_lax : (at x : ℕ) → Unless none Never (apr1.step_at false s at x) (pair_at s at x)
@@ -65,13 +65,13 @@ module _ (s : List ℕ) where
 
   offset_lax : (n at : ℕ) (u : Unsigned) → Unless refused Never (apr1.with_first false s n at u) (with_first s n at u)
   unfolding apr1.with_first with_first
-  offset_lax n at (Ok (a , past)) =
+  offset_lax n at (Ok (a, past)) =
       same (ap (λ (o : Outcome (List apr1.Pair)). cond (leb a apr1.last) (apr1.joined a o) (refused Space at)) (never (unless_records Never (apr1.step_at false s) (pair_at s) (length s) pair_lax n past a)))
   offset_lax n at (Err e) = same refl
 
   count_lax : (u : Unsigned) → Unless refused Never (apr1.with_count false s u) (with_count s u)
   unfolding apr1.with_count apr1.with_first with_count
-  count_lax (Ok (n , next)) =
+  count_lax (Ok (n, next)) =
       unless_then err_at refused Never (apr1.with_first false s n next) (with_first s n next) (λ why p. refl) (offset_lax n next) (read_unsigned false 32 s next) (lax_unsigned 32 s next) (same (lax_unsigned_law 32 s next))
   count_lax (Err e) = same refl
 
@@ -89,7 +89,7 @@ module _ (s : List ℕ) where
 module _ (s : List ℕ) where
   second_lax : (prev : apa1.Row) (u : Signed) → Unless none Never (apa1.first_of false s prev u) (row_first s prev u)
   unfolding apa1.first_of row_first
-  second_lax prev (Ok (d , next)) = same (ap (apa1.second_of prev d) (lax_signed_law 64 s next))
+  second_lax prev (Ok (d, next)) = same (ap (apa1.second_of prev d) (lax_signed_law 64 s next))
   second_lax prev (Err e) = same refl
 
   row_lax : (at : ℕ) (prev : apa1.Row) → Unless none Never (apa1.step_at false s at prev) (row_at s at prev)
@@ -99,8 +99,8 @@ module _ (s : List ℕ) where
 
   number_lax : (u : Signed) → apa1.count_of u u ≡ count_of u
   unfolding apa1.count_of apa1.plain count_of
-  number_lax (Ok ((pos n) , first)) = refl
-  number_lax (Ok ((negsuc n) , first)) = refl
+  number_lax (Ok ((pos n), first)) = refl
+  number_lax (Ok ((negsuc n), first)) = refl
   number_lax (Err e) = refl
 
   head_lax : apa1.head_at false s ≡ cond (starts_with apa1.identifier s) (count_of (lax_signed 64 s (length apa1.identifier))) (err_at Identifier 0)
@@ -125,23 +125,23 @@ module _ (s : List ℕ) where
 module _ (W : ℕ) (s : List ℕ) where
   addend_lax : (at : ℕ) (base : ℤ) (o t y : ℕ) (u : Signed) → relleb.with_addend false W at base o t y u ≡ with_addend W base o t y u
   unfolding relleb.with_addend with_addend
-  addend_lax at base o t y (Ok (e , past)) = refl
+  addend_lax at base o t y (Ok (e, past)) = refl
   addend_lax at base o t y (Err e) = refl
 
   symbol_lax : (base : ℤ) (o t : ℕ) (u : Signed) → relleb.with_symbol false W s base o t u ≡ with_symbol W s base o t u
   unfolding relleb.with_symbol with_symbol
-  symbol_lax base o t (Ok ((pos y) , next)) = refl
-  symbol_lax base o t (Ok ((negsuc y) , next)) = ap (relleb.with_addend false W next base o t y) (lax_signed_law W s next) ∙ addend_lax next base o t y (lax_signed W s next)
+  symbol_lax base o t (Ok ((pos y), next)) = refl
+  symbol_lax base o t (Ok ((negsuc y), next)) = ap (relleb.with_addend false W next base o t y) (lax_signed_law W s next) ∙ addend_lax next base o t y (lax_signed W s next)
   symbol_lax base o t (Err e) = refl
 
   type_lax : (prev : relleb.State) (o : ℕ) (u : Signed) → relleb.with_type false W s prev o u ≡ with_type W s prev o u
   unfolding relleb.with_type with_type
-  type_lax prev o (Ok (d , next)) = ap (relleb.with_symbol false W s prev.addend o _) (lax_signed_law 33 s next) ∙ symbol_lax prev.addend o _ (lax_signed 33 s next)
+  type_lax prev o (Ok (d, next)) = ap (relleb.with_symbol false W s prev.addend o _) (lax_signed_law 33 s next) ∙ symbol_lax prev.addend o _ (lax_signed 33 s next)
   type_lax prev o (Err e) = refl
 
   move_lax : (prev : relleb.State) (u : Unsigned) → relleb.with_offset false W s prev u ≡ with_offset W s prev u
   unfolding relleb.with_offset with_offset
-  move_lax prev (Ok (d , next)) = ap (relleb.with_type false W s prev _) (lax_signed_law 32 s next) ∙ type_lax prev _ (lax_signed 32 s next)
+  move_lax prev (Ok (d, next)) = ap (relleb.with_type false W s prev _) (lax_signed_law 32 s next) ∙ type_lax prev _ (lax_signed 32 s next)
   move_lax prev (Err e) = refl
 
   record_lax : (at : ℕ) (prev : relleb.State) → Unless none Never (relleb.step_at false W s at prev) (record_at W s at prev)

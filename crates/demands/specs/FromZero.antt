@@ -4,6 +4,7 @@ use Rattle.std.specs.Prelude.{Bool, cond, List, ◌≡◌, ℕ, ◌+◌, leb, le
 use Rattle.answer.specs.declared.Answer.{Answer}
 use Rattle.answer.specs.declared.Refusal.TheVariants.{Base}
 use Rattle.answer.specs.Outcome.{Outcome, accepted, refused, answer_of}
+use Rattle.word.specs.declared.Size.{Size}
 use Rattle.word.specs.declared.ByteOrder.{ByteOrder}
 use Rattle.word.specs.declared.Class.{Class}
 use Rattle.std.specs.Prelude.{Option}

@@ -23,7 +23,7 @@ use Rattle.leb128.specs.Number.{Unsigned, Signed, ok_at}
 
 -- the pair at a place: two unsigned numbers of 32 bits
 unfoldable pub pair_first : List ℕ → ℕ → ℕ → Unsigned → Step ℕ apr1.Pair
-pair_first s at x (Ok (c , next)) = apr1.second_of at x c (lax_unsigned 32 s next)
+pair_first s at x (Ok (c, next)) = apr1.second_of at x c (lax_unsigned 32 s next)
 pair_first s at x (Err e) = none e.why e.place
 
 unfoldable pub pair_at : List ℕ → ℕ → ℕ → Step ℕ apr1.Pair
@@ -31,12 +31,12 @@ pair_at s at x = pair_first s at x (lax_unsigned 32 s at)
 
 -- A, the first offset, at a place, and then n pairs
 unfoldable pub with_first : List ℕ → ℕ → ℕ → Unsigned → Outcome (List ℕ)
-with_first s n at (Ok (a , first)) = cond (leb a apr1.last) (apr1.joined a (records (pair_at s) (length s) n first a)) (refused Space at)
+with_first s n at (Ok (a, first)) = cond (leb a apr1.last) (apr1.joined a (records (pair_at s) (length s) n first a)) (refused Space at)
 with_first s n at (Err e) = refused e.why e.place
 
 -- N, the number of pairs, and then the first offset
 unfoldable pub with_count : List ℕ → Unsigned → Outcome (List ℕ)
-with_count s (Ok (n , next)) = with_first s n next (lax_unsigned 32 s next)
+with_count s (Ok (n, next)) = with_first s n next (lax_unsigned 32 s next)
 with_count s (Err e) = refused e.why e.place
 
 -- the list that a table decodes to, or its refusal
@@ -52,7 +52,7 @@ Apr1Reads s old r new = Gives (apr1_decode s) old r new
 
 -- the record at a place: two signed numbers of 64 bits
 unfoldable pub row_first : List ℕ → apa1.Row → Signed → Step apa1.Row apa1.Row
-row_first s prev (Ok (d , next)) = apa1.second_of prev d (lax_signed 64 s next)
+row_first s prev (Ok (d, next)) = apa1.second_of prev d (lax_signed 64 s next)
 row_first s prev (Err e) = none e.why e.place
 
 unfoldable pub row_at : List ℕ → ℕ → apa1.Row → Step apa1.Row apa1.Row
@@ -60,8 +60,8 @@ row_at s at prev = row_first s prev (lax_signed 64 s at)
 
 -- a count, which may not be negative: that is refused at its first byte
 unfoldable pub count_of : Signed → Unsigned
-count_of (Ok ((pos n) , first)) = ok_at n first
-count_of (Ok ((negsuc n) , first)) = err_at Width (length apa1.identifier)
+count_of (Ok ((pos n), first)) = ok_at n first
+count_of (Ok ((negsuc n), first)) = err_at Width (length apa1.identifier)
 count_of (Err e) = Err e
 
 -- the list that a table decodes to, or its refusal
@@ -83,23 +83,23 @@ pub record Apa1Reads (s os : List ℕ) (us : List ℤ) (r : Answer) (os' : List 
 
 -- a record whose addend's difference is the number given
 unfoldable pub with_addend : ℕ → ℤ → ℕ → ℕ → ℕ → Signed → Step relleb.State relleb.Row
-with_addend W base o t y (Ok (e , past)) = let a : ℤ = wrapped W (base +ℤ e) in one (relleb.row o t y a) past (relleb.state o t a)
+with_addend W base o t y (Ok (e, past)) = let a : ℤ = wrapped W (base +ℤ e) in one (relleb.row o t y a) past (relleb.state o t a)
 with_addend W base o t y (Err e) = none e.why e.place
 
 -- the symbol field
 unfoldable pub with_symbol : ℕ → List ℕ → ℤ → ℕ → ℕ → Signed → Step relleb.State relleb.Row
-with_symbol W s base o t (Ok ((pos y) , next)) = one (relleb.row o t y base) next (relleb.state o t base)
-with_symbol W s base o t (Ok ((negsuc y) , next)) = with_addend W base o t y (lax_signed W s next)
+with_symbol W s base o t (Ok ((pos y), next)) = one (relleb.row o t y base) next (relleb.state o t base)
+with_symbol W s base o t (Ok ((negsuc y), next)) = with_addend W base o t y (lax_signed W s next)
 with_symbol W s base o t (Err e) = none e.why e.place
 
 -- the type's difference
 unfoldable pub with_type : ℕ → List ℕ → relleb.State → ℕ → Signed → Step relleb.State relleb.Row
-with_type W s prev o (Ok (d , next)) = with_symbol W s prev.addend o (residue 32 (pos prev.type +ℤ d)) (lax_signed 33 s next)
+with_type W s prev o (Ok (d, next)) = with_symbol W s prev.addend o (residue 32 (pos prev.type +ℤ d)) (lax_signed 33 s next)
 with_type W s prev o (Err e) = none e.why e.place
 
 -- the offset's difference
 unfoldable pub with_offset : ℕ → List ℕ → relleb.State → Unsigned → Step relleb.State relleb.Row
-with_offset W s prev (Ok (d , next)) = with_type W s prev ((prev.offset + d) % 2 ^ W) (lax_signed 32 s next)
+with_offset W s prev (Ok (d, next)) = with_type W s prev ((prev.offset + d) % 2 ^ W) (lax_signed 32 s next)
 with_offset W s prev (Err e) = none e.why e.place
 
 -- the record at a place

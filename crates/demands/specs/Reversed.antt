@@ -2,6 +2,7 @@
 -- Assumes nothing.
 use Rattle.std.specs.Prelude.{ℕ, zero, suc, ◌/◌, List, ◌++◌, reverse, length, take, drop}
 use Rattle.answer.specs.Outcome.{Outcome, accepted, refused}
+use Rattle.word.specs.declared.Size.{Size}
 use Rattle.word.specs.Class.{size_of}
 use Rattle.std.specs.Prelude.{Option}
 use Rattle.std.specs.Prelude.{Some, None}
