@@ -1,11 +1,11 @@
 -- The needs of a pair and of the head, stated as the code asks them: their lengths, their stores, and the run of gaps that makes a pair.
 -- Assumes nothing.
-use Prim.Native.Nat.{ℕ, ◌+◌, ◌-◌, ◌*◌, ◌^◌, ◌≤◌, ◌<◌}
-use mathlib.Core.Path.{◌≡◌, refl, sym, ap, subst, ◌∙◌}
+use Prim.Native.Nat.{ℕ, ◌+◌, ◌*◌, ◌^◌, ◌≤◌, ◌<◌}
+use mathlib.Core.Path.{◌≡◌, refl, sym, ap, ◌∙◌}
 use mathlib.Core.List.{List, [], ◌∷◌, ◌++◌, append_assoc}
 use native.Mathlib.Numerals.{add-one}
 use native.Mathlib.Omega.{arith}
-use lib.ListN.{length, get_or, drop, length-append, drop_of_length-le}
+use lib.ListN.{length, get_or, drop, length-append}
 use lib.Seq.{drop-cons}
 use mir.Syntax.{w64}
 use mir.Val.{Fits}
@@ -15,7 +15,6 @@ use Rattle.leb128.specs.Number.{short_unsigned}
 use Rattle.leb128.proofs.RoundTrip.{unsigned_bytes}
 use Rattle.apr1_table.specs.Table.{identifier, last, pair, run, one_pair, head_of}
 use Rattle.apr1_table.specs.Table.Laws.{run_more}
-use Rattle.apr1_table.specs.Inner.{Stops, Run}
 use Rattle.apr1_write.specs.Inner.{Countable}
 use Rattle.apr1_table.proofs.Pairs.{one_bytes, one_most, head_bytes}
 
@@ -77,41 +76,9 @@ unfolding run
 count_begin h = record { k = 0; so_far = omega arith; reach = omega arith; low = h.low; within = h.within; here = refl }
 
 module _ {l : List ℕ} {f y d i x : ℕ} (h : Countable l f y d) (g : Counting l f y d i x) where
-  pub count_sum : Fits w64 (x + d)
-  count_sum = record { fits = omega (arith, g.low, h.step) }
-
-  pub count_low : f ≤ i
-  count_low = omega (arith, g.so_far)
-
-  -- the run as it stands, if it stops here
-  stopped : Stops x d (drop i l) → Run l f y d (i - f)
-  stopped s =
-      let e : i - f ≡ g.k = omega (arith, g.so_far) in
-      let j : f + g.k ≡ i = omega (arith, g.so_far) in
-      rw e (record {
-        within = omega (arith, g.within, g.so_far);
-        here = rw j g.here;
-        low = omega (arith, g.reach, g.low);
-        stop = rw (← g.reach, j) s;
-      })
-
-  pub count_end : length l ≤ i → Run l f y d (length l - f)
-  count_end e =
-      let q : i - f ≡ length l - f = omega (arith, g.within) in
-      subst (Run l f y d) q (stopped (subst (Stops x d) (sym (drop_of_length-le l e)) tt))
-
   module _ {z : ℕ} (il : i < length l) (ze : z ≡ get_or l i 0) where
     next : drop i l ≡ z ∷ drop (i + 1) l
     next = rw (ze, add-one) (drop-cons l i 0 il)
-
-    pub count_far : last < z → Run l f y d (i - f)
-    count_far e = stopped (subst (Stops x d) (sym next) (λ a b. absurd (omega arith)))
-
-    pub count_below : z < x + d → Run l f y d (i - f)
-    count_below e = stopped (subst (Stops x d) (sym next) (λ a b. absurd (omega arith)))
-
-    pub count_above : x + d < z → Run l f y d (i - f)
-    count_above e = stopped (subst (Stops x d) (sym next) (λ a b. absurd (omega arith)))
 
     pub count_more : x + d ≤ z → z ≤ x + d → z ≤ last → Counting l f y d (i + 1) z
     count_more e e2 m =
@@ -125,4 +92,4 @@ module _ {l : List ℕ} {f y d i x : ℕ} (h : Countable l f y d) (g : Counting 
           here = g.here ∙ rw (next, run_more y g.k d, q) (sym (append_assoc (run y g.k d) ((y + (g.k + 1) * d) ∷ []) (drop (i + 1) l)));
         }
 
-pub ruleset counts = (count_begin, count_sum, count_low, count_end, count_far, count_below, count_above, count_more, rules)
+pub ruleset counts = (count_begin, count_more, rules)

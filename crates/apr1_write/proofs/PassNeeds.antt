@@ -1,6 +1,6 @@
 -- The needs of the writer's two passes, and of a write, stated as the code asks them.
 -- Assumes nothing.
-use Prim.Native.Nat.{ℕ, suc, ◌+◌, ◌-◌, ◌*◌, ◌^◌, ◌≤◌, ◌<◌}
+use Prim.Native.Nat.{ℕ, suc, ◌+◌, ◌-◌, ◌*◌, ◌≤◌, ◌<◌}
 use mathlib.Core.Path.{◌≡◌, refl, sym, ap, subst, ◌∙◌}
 use mathlib.Core.List.{List, [], ◌∷◌, ◌++◌, append_assoc, append-nil}
 use native.Mathlib.Numerals.{add-one}
@@ -11,37 +11,19 @@ use mir.Syntax.{w64}
 use mir.Val.{Fits}
 use borrow.Author.Rules.{rules}
 use Rattle.answer.specs.declared.Answer.{Answer}
-use Rattle.answer.specs.declared.Refusal.{Refusal}
 use Rattle.answer.specs.declared.Refusal.TheVariants.{Order, Space, Limit, Empty}
 use Rattle.answer.proofs.Limits.{list_small}
 use Rattle.answer.specs.Outcome.{Outcome, accepted, refused, success, refusal, no_room, list_limit, itself, found_of, err_at, Gives, filled}
 use Rattle.answer.specs.Outcome.Laws.{filled_self, found_accepted, gives_refused, gives_short, gives_full}
 use Rattle.answer.specs.Written.{Written, written_then, written_long}
 use Rattle.apr1_write.specs.declared.Need.{Need}
-use Rattle.apr1_table.specs.Table.{last, Pair, pair, pair_then, pairs_from, one_pair, pair_bytes, head_of, checked, build, Rising, Writable, encode}
+use Rattle.apr1_table.specs.Table.{last, Pair, pair, pair_then, pairs_from, one_pair, pair_bytes, head_of, checked, build, Rising, encode}
 use Rattle.apr1_table.specs.Inner.{Run, head_in, pairs_in, table_in}
-use Rattle.apr1_write.specs.Inner.{Countable, Sizable, Sizes, Puttable, PairsPut, Encodable, TablePut, SizesIn}
+use Rattle.apr1_write.specs.Inner.{Sizable, Sizes, Puttable, PairsPut, Encodable, TablePut, SizesIn}
 use Rattle.apr1_table.proofs.Pairs.{one_most, pair_bytes_none, pair_bytes_append, pair_bytes_more, head_most, table_bytes_law, checked_space, checked_order, checked_more, rising_rest, build_none, from_head, build_is, step_checked, step_rising, step_pairs}
 use Rattle.apr1_table.proofs.RoundTrip.{encode_over, encode_in, encode_accepts}
 use Rattle.std.specs.Prelude.{Result, Ok, Err}
 use Rattle.answer.specs.declared.Refused.{Refused}
-
--- ---- a run of k more equal gaps, which either pass counts
-module _ {l : List ℕ} {from y d k : ℕ} (r : Run l from y d k) where
-  pub run_count : length l ≤ list_limit → Fits w64 (k + 1)
-  run_count h = record { fits = omega (arith, r.within, list_small) }
-
-  pub run_product : Fits w64 (k * d)
-  run_product = record { fits = omega (arith, r.low) }
-
-  pub run_reach : Fits w64 (y + k * d)
-  run_reach = record { fits = omega (arith, r.low) }
-
-  pub run_index : length l < 2 ^ 64 → Fits w64 (from + k)
-  run_index h = record { fits = omega (arith, r.within) }
-
-pub run_less : (l : List ℕ) (i k : ℕ) → i < length l → length l - (i + 1 + k) < length l - i
-run_less l i k h = omega arith
 
 -- ---- the first pass
 pub record Sizing (l : List ℕ) (a i x n b : ℕ) : Type 0 where
@@ -92,13 +74,7 @@ module _ {l : List ℕ} {a i x n b : ℕ} (s : Sizable l) (g : Sizing l a i x n 
     size_order h k = build_is l s.some ∙ g.clean _ ∙ rw follow (checked_order i (x + 1) y (drop (i + 1) l) _ k (omega arith))
 
     module _ (up : x < y) (low : y ≤ last) where
-      pub size_countable : Countable l (i + 1) y (y - x)
-      size_countable = record { within = omega arith; low = low; step = omega arith }
-
       module _ {k : ℕ} (r : Run l (i + 1) y (y - x) k) where
-        pub size_pairs : Fits w64 (n + 1)
-        size_pairs = record { fits = omega (arith, g.few, s.few, list_small) }
-
         module _ {q : ℕ} (qe : q ≡ length (one_pair (pair (k + 1) (y - x)))) where
           most : q ≤ 10
           most = rw qe (one_most 32 (k + 1) (y - x) (omega arith) (omega (arith, r.within, s.few, list_small)) (omega arith))
@@ -151,7 +127,7 @@ module _ {l : List ℕ} {a i x n b : ℕ} (s : Sizable l) (g : Sizing l a i x n 
           g.rises none,
         )
 
-pub ruleset sizes = (size_far, size_begin, size_space, size_order, size_countable, run_count, run_product, run_reach, run_index, size_pairs, run_less, size_bytes, size_more, size_total, size_end, rules)
+pub ruleset sizes = (size_far, size_begin, size_space, size_order, size_bytes, size_more, size_total, size_end, rules)
 
 -- ---- the second pass
 pub record Putting (l old now : List ℕ) (first i x at : ℕ) : Type 0 where
@@ -177,18 +153,12 @@ module _ {l old : List ℕ} {first : ℕ} (f : Puttable l old first) where
       }
 
   module _ {now : List ℕ} {i x at : ℕ} (g : Putting l old now first i x at) where
-    pub put_long : length now ≡ length old
+    put_long : length now ≡ length old
     put_long = written_long g.written
 
     module _ {y : ℕ} (il : i < length l) (ye : y ≡ get_or l i 0) where
       rest : (x + 1 ≤ y) × (y ≤ last) × Rising (suc y) (drop (i + 1) l)
       rest = let n : drop i l ≡ y ∷ drop (i + 1) l = rw (ye, add-one) (drop-cons l i 0 il) in subst (Rising (x + 1)) n g.rising
-
-      pub put_up : x ≤ y
-      put_up = omega (arith, rest.0)
-
-      pub put_countable : Countable l (i + 1) y (y - x)
-      put_countable = record { within = omega arith; low = rest.1; step = omega (arith, rest.1) }
 
       module _ {k : ℕ} (r : Run l (i + 1) y (y - x) k) where
         further : Rising (y + k * (y - x) + 1) (drop (i + 1 + k) l)
@@ -231,7 +201,7 @@ module _ {l old : List ℕ} {first : ℕ} (f : Puttable l old first) where
         let e : pairs_in l ≡ g.ps = g.so ∙ rw (drop_of_length-le l h) (append-nil g.ps) in
         rw e g.written.list
 
-pub ruleset puttings = (put_begin, put_long, put_up, put_countable, run_count, run_product, run_reach, run_index, run_less, put_room, put_more, put_end, rules)
+pub ruleset puttings = (put_begin, put_room, put_more, put_end, rules)
 
 -- ---- the head, and then the pairs
 module _ (l old : List ℕ) (n : ℕ) (f : Encodable l old n) where
