@@ -32,8 +32,7 @@ use Rattle.word.specs.declared.Size.TheVariants.{Four, Eight}
 use Rattle.word.specs.declared.Named.TheVariants.{Is}
 use Rattle.listing.specs.declared.kind.Kind.{Kind}
 use Rattle.listing.specs.declared.kind.Kind.TheVariants.{Relr32, Relr64, Apr1, Apa1, Relleb32, Relleb64}
-use Rattle.listing.specs.declared.kind.Line.{Line}
-use Rattle.listing.specs.declared.kind.Line.TheVariants.{Names, Unknown}
+use Rattle.std.specs.Prelude.{Option, Some, None}
 use Rattle.listing.specs.Text.{decimal, line_of, tried, first_line, has_type, has_addend, offset_row, pair_row, mapped, rows_of, header, refused_word, row_text, row_at, rows_to, refusal_text, record_limit, table_limit, printed, text_of}
 use Rattle.listing.specs.Text.Laws.{answer_mapped, source, offset_line, pair_line, rows_all, printed_rows, printed_refusal, text_unknown, text_limit, text_table}
 use Rattle.listing.specs.Inner.{Prints, Room, Readable, Reads, Shows}
@@ -186,20 +185,20 @@ shown {old} {page} {t} {count} p room =
       within = omega (arith, p.few, written_long p.written);
     }
 
-tried_starts : (s : List ℕ) (j : Kind) (rest : Line) (k : Kind) → tried j s rest ≡ Names k → (rest ≡ Names k → starts_with (line_of k) s ≡ true) → starts_with (line_of k) s ≡ true
+tried_starts : (s : List ℕ) (j : Kind) (rest : Option Kind) (k : Kind) → tried j s rest ≡ Some k → (rest ≡ Some k → starts_with (line_of k) s ≡ true) → starts_with (line_of k) s ≡ true
 tried_starts s j rest k e g = go (starts_with (line_of j) s) refl e
   where
-    go : (t : Bool) → starts_with (line_of j) s ≡ t → cond t (Names j) rest ≡ Names k → starts_with (line_of k) s ≡ true
+    go : (t : Bool) → starts_with (line_of j) s ≡ t → cond t (Some j) rest ≡ Some k → starts_with (line_of k) s ≡ true
     go true h e = let f : j ≡ k = cc in rw (← f) h
     go false h e = g e
 
-pub line_starts : (s : List ℕ) (k : Kind) → first_line s ≡ Names k → starts_with (line_of k) s ≡ true
+pub line_starts : (s : List ℕ) (k : Kind) → first_line s ≡ Some k → starts_with (line_of k) s ≡ true
 unfolding first_line
 line_starts s k e =
     tried_starts s Relr32 _ k e λ e. tried_starts s Relr64 _ k e λ e. tried_starts s Apr1 _ k e λ e. tried_starts s Apa1 _ k e λ e. tried_starts s Relleb32 _ k e λ e.
     tried_starts s Relleb64 _ k e λ e. let z : ◌≡◌ {A = ℕ} 0 1 = cc in absurd (omega arith)
 
-module _ (s : List ℕ) {line : Line} {k : Kind} {at : ℕ} (e : line ≡ first_line s) (n : line ≡ Names k) (a : at ≡ length (line_of k)) where
+module _ (s : List ℕ) {line : Option Kind} {k : Kind} {at : ℕ} (e : line ≡ first_line s) (n : line ≡ Some k) (a : at ≡ length (line_of k)) where
   pub line_within : at ≤ length s
   line_within = elim (dec_lt (length s) (length (line_of k))) [
     | yes h ↦ let z : ◌≡◌ {A = Bool} true false = sym (line_starts s k (sym e ∙ n)) ∙ starts_short (line_of k) s h in let y : ◌≡◌ {A = ℕ} 0 1 = cc in absurd (omega arith)
@@ -217,7 +216,7 @@ module _ (s : List ℕ) {line : Line} {k : Kind} {at : ℕ} (e : line ≡ first_
     pub text_whole : length (take (length s - at) (drop at s)) ≤ table_limit → Prints old new 0 past (printed k (rows_of k (take (length s - at) (drop at s)))) 131072 → Shows new past (text_of s)
     text_whole h p = shown (same_puts p (ap (λ (t : List ℕ). printed k (rows_of k t)) part ∙ text_table s e n (rw part at h)) (omega arith)) room
 
-pub text_none : (s : List ℕ) {line : Line} {old new : List ℕ} {past : ℕ} → 131072 ≤ length old → line ≡ first_line s → line ≡ Unknown
+pub text_none : (s : List ℕ) {line : Option Kind} {old new : List ℕ} {past : ℕ} → 131072 ≤ length old → line ≡ first_line s → line ≡ None
     → Prints old new 0 past (refusal_text 1 0) 50 → Shows new past (text_of s)
 text_none s room e u p = shown (same_puts p (text_unknown s e u) (omega arith)) room
 

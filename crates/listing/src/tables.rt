@@ -3,9 +3,9 @@ ghost use Rattle.std.specs.Prelude.{◌≤◌, length};
 ghost use Rattle.listing.specs.Text.{printed, rows_of, refusal_text, table_limit, text_of};
 ghost use Rattle.listing.specs.Inner.{Prints, Readable, Reads, Shows};
 
-use crate::kind::{Kind, Line};
+use crate::kind::Kind;
 use crate::{decimal, kind, page, rows};
-use answer::{Answer, CLASS, LIMIT};
+use answer::{Answer, Refusal};
 use word::ByteOrder;
 
 // The most bytes of a table, and the most records.
@@ -77,14 +77,13 @@ pub fn put_text(page: &mut [u8], input: &[u8]) -> usize
     requires { 131072 ≤ length page.old }
     ensures { Shows page.new result (text_of input.now) }
 {
-    let line = kind::first_line(input);
-    let Line::Names(kind) = line else {
-        return put_refusal(page, CLASS, 0);
+    let Some(kind) = kind::first_line(input) else {
+        return put_refusal(page, Refusal::Class.number(), 0);
     };
     let start = kind.line_len();
     let table = &input[start..];
     if TABLE_LIMIT < table.len() {
-        return put_refusal(page, LIMIT, 0);
+        return put_refusal(page, Refusal::Limit.number(), 0);
     }
     put_table(page, kind, table)
 }
