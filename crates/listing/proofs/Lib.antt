@@ -1,5 +1,4 @@
 pub mod PutNeeds
-pub mod KindNeeds
 pub mod RowNeeds
 pub mod TableNeeds
 pub mod CopyNeeds

@@ -8,7 +8,9 @@ use native.Mathlib.Numerals.{add-one}
 use native.Mathlib.Omega.{arith}
 use lib.IntN.{ℤ, pos}
 use lib.ListN.{length, get_or}
-use lib.Signed.{mag}
+use mir.Syntax.{w64}
+use mir.Val.{SFits, to_z, of_z}
+use mir.Facts.{to_z-of_z}
 use borrow.Author.Rules.{rules}
 use Rattle.std.specs.Fmt as fmt
 use Rattle.relleb_table.specs.Table.{Row, row}
@@ -30,16 +32,16 @@ module _ (t : List ℕ) {old mid new : List ℕ} {shown : Bool} (p : Prints old 
 
 pub ruleset fields = (field_some, field_none, rules)
 
--- ---- a line
+-- ---- a line; an addend is handed to a callee by its bits
 pub row_put : (k : Kind) (i o t y : ℕ) (a : ℤ) {p0 p1 p2 p3 p4 p5 p6 : List ℕ} {typed signed : Bool}
-    → i < 2 ^ 64 → o < 2 ^ 64 → t < 2 ^ 32 → y < 2 ^ 32 → mag a < 2 ^ 63 → typed ≡ has_type k → signed ≡ has_addend k
+    → i < 2 ^ 64 → o < 2 ^ 64 → t < 2 ^ 32 → y < 2 ^ 32 → SFits w64 a → typed ≡ has_type k → signed ≡ has_addend k
     → Prints p0 p1 (fmt.decimal i) 20 → Prints p1 p2 (field true (fmt.decimal o)) 22
     → Prints p2 p3 (field typed (fmt.decimal t)) 12 → Prints p3 p4 (field typed (fmt.decimal y)) 12
-    → Prints p4 p5 (field signed (fmt.signed_decimal a)) 22 → Prints p5 p6 (10 ∷ []) 1
+    → Prints p4 p5 (field signed (fmt.signed_decimal (to_z w64 (of_z w64 a)))) 22 → Prints p5 p6 (10 ∷ []) 1
     → Prints p0 p6 (row_text k i (row o t y a)) 109
 unfolding row_text
 row_put k i o t y a hi ho ht hy ha e f a1 a2 a3 a4 a5 a6 =
-    rw (← decimal_same i hi, ← decimal_same o ho, ← decimal_same t (omega arith), ← decimal_same y (omega arith), ← signed_same a ha, ← e, ← f)
+    rw (← decimal_same i hi, ← decimal_same o ho, ← decimal_same t (omega arith), ← decimal_same y (omega arith), ← signed_same a ha.sfits, ← to_z-of_z {w = w64} ha, ← e, ← f)
     (put_put {m = 88} (put_put {m = 66} (put_put {m = 54} (put_put {m = 42} (put_put a1 a2 (omega arith)) a3 (omega arith)) a4 (omega arith)) a5 (omega arith)) a6 (omega arith))
 
 pub ruleset rows = (row_put, rules)

@@ -6,6 +6,7 @@ use Rattle.answer.specs.Outcome.{accepted, answer_in, filled, itself}
 use Rattle.relleb_table.specs.Table.{Row, row}
 use Rattle.listing.specs.declared.kind.Kind.{Kind}
 use Rattle.listing.specs.declared.columns.Columns.{Columns}
+use Rattle.listing.specs.declared.columns.Row as columns
 use Rattle.listing.specs.Text.{rows_of, row_text, row_at, rows_to, record_limit}
 
 -- bytes, at most so many, are put behind a text
@@ -17,6 +18,10 @@ pub record Prints (old new bytes : List ℕ) (most : ℕ) : Type 0 where
 pub record Copies (bytes old : List ℕ) (r : Answer) (new : List ℕ) : Type 0 where
   pub answer : r ≡ answer_in (length old) (accepted bytes)
   pub text : new ≡ filled itself (accepted bytes) old
+
+-- a record of the columns, as the specification has it
+abbrev pub record_of : columns.Row → Row
+record_of x = row x.offset x.rtype x.symbol x.addend
 
 -- the record at an index of the columns
 abbrev pub row_in : Columns → ℕ → Row

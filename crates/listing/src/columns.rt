@@ -1,8 +1,7 @@
 // The records of a table, in columns of the most records: each has the same four fields.
 ghost use Rattle.std.specs.Prelude.{◌≡◌, ◌<◌};
-ghost use Rattle.relleb_table.specs.Table.{row};
 ghost use Rattle.listing.specs.Text.{record_limit};
-ghost use Rattle.listing.specs.Inner.{Reads, row_in};
+ghost use Rattle.listing.specs.Inner.{Reads, record_of, row_in};
 
 use crate::kind::Kind;
 use answer::Answer;
@@ -73,7 +72,7 @@ impl Columns {
     // The record at an index.
     pub fn row(&self, i: usize) -> Row
         requires { i < record_limit }
-        ensures { row result.offset result.rtype result.symbol result.addend ≡ row_in self.now i }
+        ensures { record_of result ≡ row_in self.now i }
     {
         Row {
             offset: self.offsets[i],

@@ -46,6 +46,7 @@ impl Kind {
 }
 
 // The kind that the first line names: the whole line, to the byte.
+#[tactic(auto, unfolding(crate::specs::Text::first_line))]
 pub fn first_line(input: &[u8]) -> Option<Kind>
     ensures { result ≡ first_line input.now }
 {

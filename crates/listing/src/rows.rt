@@ -1,8 +1,7 @@
 // The lines of a list of records.
 ghost use Rattle.std.specs.Prelude.{◌++◌, ◌+◌, ◌*◌, ◌≤◌, length};
-ghost use Rattle.relleb_table.specs.Table.{row};
 ghost use Rattle.listing.specs.Text.{field, header, record_limit, row_text, text_room};
-ghost use Rattle.listing.specs.Inner.{Prints, lines_to};
+ghost use Rattle.listing.specs.Inner.{Prints, lines_to, record_of};
 
 use crate::columns::{Columns, Row};
 use crate::kind::Kind;
@@ -25,7 +24,7 @@ fn put_field<I: Integer>(page: &mut Page, shown: bool, x: I)
 // The line of one record.
 fn put_row(page: &mut Page, kind: Kind, index: usize, line: Row)
     requires { length page.old + 109 ≤ text_room }
-    ensures { Prints page.old page.new (row_text kind index (row line.offset line.rtype line.symbol line.addend)) 109 }
+    ensures { Prints page.old page.new (row_text kind index (record_of line)) 109 }
 {
     let typed = kind.has_type();
     let signed = kind.has_addend();
