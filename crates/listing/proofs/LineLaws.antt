@@ -10,8 +10,7 @@ use borrow.Author.Tests.{eqb-true}
 use Rattle.records.specs.Identifier.{starts_with}
 use Rattle.listing.specs.declared.kind.Kind.{Kind}
 use Rattle.listing.specs.declared.kind.Kind.TheVariants.{Relr32, Relr64, Apr1, Apa1, Relleb32, Relleb64}
-use Rattle.listing.specs.declared.kind.Line.{Line}
-use Rattle.listing.specs.declared.kind.Line.TheVariants.{Names, Unknown}
+use Rattle.std.specs.Prelude.{Option, Some, None}
 use Rattle.listing.specs.Text.{feed, name_of, first_line}
 use Rattle.listing.proofs.TableNeeds.{line_starts}
 
@@ -56,11 +55,11 @@ name_plain Relleb32 = ((λ e. omega arith), ((λ e. omega arith), ((λ e. omega 
 name_plain Relleb64 = ((λ e. omega arith), ((λ e. omega arith), ((λ e. omega arith), ((λ e. omega arith), ((λ e. omega arith), ((λ e. omega arith), ((λ e. omega arith), ((λ e. omega arith), tt))))))))
 
 -- where the bytes before the first line feed name a kind, they are its name
-pub line_is : (l t : List ℕ) (k : Kind) → NoFeed l → first_line (l ++ 10 ∷ t) ≡ Names k → l ≡ name_of k
+pub line_is : (l t : List ℕ) (k : Kind) → NoFeed l → first_line (l ++ 10 ∷ t) ≡ Some k → l ≡ name_of k
 line_is l t k h e = starts_line (name_of k) l t (name_plain k) h (line_starts (l ++ 10 ∷ t) k e)
 
 -- each name, with a line feed behind it, names its kind
-pub line_named : (k : Kind) (t : List ℕ) → first_line (name_of k ++ 10 ∷ t) ≡ Names k
+pub line_named : (k : Kind) (t : List ℕ) → first_line (name_of k ++ 10 ∷ t) ≡ Some k
 unfolding first_line starts_with
 line_named Relr32 t = refl
 line_named Relr64 t = refl
@@ -70,9 +69,9 @@ line_named Relleb32 t = refl
 line_named Relleb64 t = refl
 
 -- an input without a line feed names no kind
-pub line_unended : (s : List ℕ) → NoFeed s → first_line s ≡ Unknown
+pub line_unended : (s : List ℕ) → NoFeed s → first_line s ≡ None
 line_unended s h = go (first_line s) refl
   where
-    go : (line : Line) → first_line s ≡ line → line ≡ Unknown
-    go (Names k) e = absurd (starts_feed (name_of k) s h (line_starts s k e))
-    go Unknown e = refl
+    go : (line : Option Kind) → first_line s ≡ line → line ≡ None
+    go (Some k) e = absurd (starts_feed (name_of k) s h (line_starts s k e))
+    go None e = refl

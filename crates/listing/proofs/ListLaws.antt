@@ -13,8 +13,7 @@ use Rattle.answer.specs.Outcome.Laws.{answer_fits, filled_self, filled_long}
 use Rattle.records.specs.Identifier.{starts_with}
 use Rattle.listing.specs.declared.kind.Kind.{Kind}
 use Rattle.listing.specs.declared.kind.Kind.TheVariants.{Relr32, Relr64, Apr1, Apa1, Relleb32, Relleb64}
-use Rattle.listing.specs.declared.kind.Line.{Line}
-use Rattle.listing.specs.declared.kind.Line.TheVariants.{Names, Unknown}
+use Rattle.std.specs.Prelude.{Option, Some, None}
 use Rattle.listing.specs.Text.{line_of, first_line, held_bytes, text_room, text_of}
 use Rattle.listing.specs.Text.Laws.{text_unknown, text_limit}
 use Rattle.listing.specs.Contract.{Lists}
@@ -82,9 +81,9 @@ line_most Relleb64 = omega arith
 pub text_held : (s : List ℕ) → text_of (take held_bytes s) ≡ text_of s
 text_held s = elim (dec_lt held_bytes (length s)) [ yes h ↦ long h (first_line s) refl | no h ↦ ap text_of (take_all held_bytes s (omega arith)) ]
   where
-    long : held_bytes < length s → (line : Line) → line ≡ first_line s → text_of (take held_bytes s) ≡ text_of s
-    long h Unknown e = sym (text_unknown (take held_bytes s) (e ∙ sym (first_take s)) refl) ∙ text_unknown s e refl
-    long h (Names k) e =
+    long : held_bytes < length s → (line : Option Kind) → line ≡ first_line s → text_of (take held_bytes s) ≡ text_of s
+    long h None e = sym (text_unknown (take held_bytes s) (e ∙ sym (first_take s)) refl) ∙ text_unknown s e refl
+    long h (Some k) e =
         let n : length (take held_bytes s) ≡ held_bytes = length-take-le held_bytes s (omega arith) in
         sym (text_limit (take held_bytes s) (e ∙ sym (first_take s)) refl (omega (arith, length-drop (length (line_of k)) (take held_bytes s), line_most k)))
         ∙ text_limit s e refl (omega (arith, length-drop (length (line_of k)) s, line_most k))

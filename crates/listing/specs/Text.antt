@@ -1,6 +1,6 @@
 -- The listing program: the whole text that it writes for its whole input.
 -- Assumes nothing.
-use Rattle.std.specs.Prelude.{ℕ, zero, suc, ◌+◌, ◌/◌, ◌%◌, Bool, true, false, cond, List, [], ◌∷◌, ◌++◌, map, ltb, leb, ℤ, pos, negsuc, length, drop, get_or}
+use Rattle.std.specs.Prelude.{ℕ, zero, suc, ◌+◌, ◌/◌, ◌%◌, Bool, true, false, cond, List, [], ◌∷◌, ◌++◌, map, ltb, leb, ℤ, pos, negsuc, length, drop, get_or, Option, Some, None}
 use Rattle.answer.specs.declared.Refusal.TheVariants.{Class, Limit, Room}
 use Rattle.answer.specs.Outcome.{number_of, Outcome, accepted, refused}
 use Rattle.records.specs.Identifier.{starts_with}
@@ -12,8 +12,6 @@ use Rattle.relleb_table.specs.Table as relleb
 use Rattle.relleb_table.specs.Table.{Row, row}
 use Rattle.listing.specs.declared.kind.Kind.{Kind}
 use Rattle.listing.specs.declared.kind.Kind.TheVariants.{Relr32, Relr64, Apr1, Apa1, Relleb32, Relleb64}
-use Rattle.listing.specs.declared.kind.Line.{Line}
-use Rattle.listing.specs.declared.kind.Line.TheVariants.{Names, Unknown}
 pub mod Laws
 
 -- ---- decimal numbers
@@ -57,13 +55,13 @@ abbrev pub line_of : Kind → List ℕ
 line_of k = name_of k ++ feed
 
 -- the kind whose line an input starts with, and otherwise what is said of the rest
-abbrev pub tried : Kind → List ℕ → Line → Line
-tried k s rest = cond (starts_with (line_of k) s) (Names k) rest
+abbrev pub tried : Kind → List ℕ → Option Kind → Option Kind
+tried k s rest = cond (starts_with (line_of k) s) (Some k) rest
 
 -- what the first line of an input says: the kind that it names, or that it names none or has no line feed
-unfoldable pub first_line : List ℕ → Line
+unfoldable pub first_line : List ℕ → Option Kind
 first_line s =
-    tried Relr32 s (tried Relr64 s (tried Apr1 s (tried Apa1 s (tried Relleb32 s (tried Relleb64 s Unknown)))))
+    tried Relr32 s (tried Relr64 s (tried Apr1 s (tried Apa1 s (tried Relleb32 s (tried Relleb64 s None)))))
 
 -- ---- the records of a table, each with the same four fields; one that its kind lacks is 0, and is not printed
 
@@ -170,9 +168,9 @@ unfoldable pub table_text : Kind → List ℕ → List ℕ
 table_text k t = cond (leb (length t) table_limit) (printed k (rows_of k t)) (refusal_text (number_of Limit) 0)
 
 -- the text for an input whose first line is known
-unfoldable pub text_after : Line → List ℕ → List ℕ
-text_after (Names k) s = table_text k (drop (length (line_of k)) s)
-text_after Unknown s = refusal_text (number_of Class) 0
+unfoldable pub text_after : Option Kind → List ℕ → List ℕ
+text_after (Some k) s = table_text k (drop (length (line_of k)) s)
+text_after None s = refusal_text (number_of Class) 0
 
 -- the text for an input
 unfoldable pub text_of : List ℕ → List ℕ

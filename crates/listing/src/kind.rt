@@ -2,7 +2,7 @@
 ghost use Rattle.std.specs.Prelude.{◌≡◌, length};
 ghost use Rattle.listing.specs.Text.{line_of, has_type, has_addend, first_line};
 
-#[derive(Clone, Copy)]
+#[derive(Clone, Copy, PartialEq, Eq, Debug)]
 pub enum Kind {
     Relr32,
     Relr64,
@@ -12,25 +12,14 @@ pub enum Kind {
     Relleb64,
 }
 
-// What the first line says.
-#[derive(Clone, Copy)]
-pub enum Line {
-    Names(Kind),
-    Unknown,
-}
-
 impl Kind {
     // Whether a record has a type and a symbol.
     pub fn has_type(self) -> bool
         ensures { result ≡ has_type self }
     {
         match self {
-            Kind::Relr32 => false,
-            Kind::Relr64 => false,
-            Kind::Apr1 => false,
-            Kind::Apa1 => false,
-            Kind::Relleb32 => true,
-            Kind::Relleb64 => true,
+            Kind::Relleb32 | Kind::Relleb64 => true,
+            _ => false,
         }
     }
 
@@ -39,12 +28,8 @@ impl Kind {
         ensures { result ≡ has_addend self }
     {
         match self {
-            Kind::Relr32 => false,
-            Kind::Relr64 => false,
-            Kind::Apr1 => false,
-            Kind::Apa1 => true,
-            Kind::Relleb32 => true,
-            Kind::Relleb64 => true,
+            Kind::Apa1 | Kind::Relleb32 | Kind::Relleb64 => true,
+            _ => false,
         }
     }
 
@@ -53,37 +38,35 @@ impl Kind {
         ensures { result ≡ length (line_of self) }
     {
         match self {
-            Kind::Relr32 => 7,
-            Kind::Relr64 => 7,
-            Kind::Apr1 => 5,
-            Kind::Apa1 => 5,
-            Kind::Relleb32 => 9,
-            Kind::Relleb64 => 9,
+            Kind::Relr32 | Kind::Relr64 => 7,
+            Kind::Apr1 | Kind::Apa1 => 5,
+            Kind::Relleb32 | Kind::Relleb64 => 9,
         }
     }
 }
 
 // The kind that the first line names: the whole line, to the byte.
-pub fn first_line(input: &[u8]) -> Line
+#[tactic(auto, unfolding(crate::specs::Text::first_line))]
+pub fn first_line(input: &[u8]) -> Option<Kind>
     ensures { result ≡ first_line input.now }
 {
     if records::starts_with(input, b"relr32\n") {
-        return Line::Names(Kind::Relr32);
+        return Some(Kind::Relr32);
     }
     if records::starts_with(input, b"relr64\n") {
-        return Line::Names(Kind::Relr64);
+        return Some(Kind::Relr64);
     }
     if records::starts_with(input, b"apr1\n") {
-        return Line::Names(Kind::Apr1);
+        return Some(Kind::Apr1);
     }
     if records::starts_with(input, b"apa1\n") {
-        return Line::Names(Kind::Apa1);
+        return Some(Kind::Apa1);
     }
     if records::starts_with(input, b"relleb32\n") {
-        return Line::Names(Kind::Relleb32);
+        return Some(Kind::Relleb32);
     }
     if records::starts_with(input, b"relleb64\n") {
-        return Line::Names(Kind::Relleb64);
+        return Some(Kind::Relleb64);
     }
-    Line::Unknown
+    None
 }

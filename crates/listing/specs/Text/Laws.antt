@@ -3,7 +3,7 @@
 use Rattle.std.proofs.Math.Path.{◌≡◌, refl, sym, ap}
 use Rattle.std.proofs.Common.{◌∙◌, arith, length-append, take-suc}
 use mathlib.Core.List.{List, [], ◌∷◌, ◌++◌, map, append-nil, append_assoc}
-use Rattle.std.specs.Prelude.{Bool, take, drop, get_or, ltb, leb, ℤ, pos, negsuc}
+use Rattle.std.specs.Prelude.{Bool, take, drop, get_or, ltb, leb, ℤ, pos, negsuc, Option, Some, None}
 use Rattle.std.proofs.Math.Bool.{true, false, cond}
 use Prim.Native.Nat.{ℕ, zero, suc, ◌+◌, ◌*◌, ◌/◌, ◌%◌, ◌^◌, ◌≤◌, ◌<◌}
 use Rattle.std.proofs.Math.Decide.{dec_lt}
@@ -15,8 +15,6 @@ use Rattle.answer.specs.declared.Refusal.TheVariants.{Room}
 use Rattle.answer.specs.Outcome.{number_of, Outcome, accepted, refused, success, refusal, no_room, answer_in}
 use Rattle.relleb_table.specs.Table.{Row}
 use Rattle.listing.specs.declared.kind.Kind.{Kind}
-use Rattle.listing.specs.declared.kind.Line.{Line}
-use Rattle.listing.specs.declared.kind.Line.TheVariants.{Names, Unknown}
 use Rattle.listing.specs.Text.{dash, digits_by, decimal, decimal_signed, line_of, first_line, has_type, has_addend, mapped, rows_of, header, field, row_text, rows_from, row_at, rows_to, refusal_text, record_limit, table_limit, printed, table_text, text_after, text_of}
 
 -- induction on the digits
@@ -158,12 +156,12 @@ module _ (k : Kind) where
   printed_refusal (refused why p) n = refl
 
 -- ---- the text of an input
-module _ (s : List ℕ) {line : Line} (e : line ≡ first_line s) where
-  pub text_unknown : line ≡ Unknown → refusal_text 1 0 ≡ text_of s
+module _ (s : List ℕ) {line : Option Kind} (e : line ≡ first_line s) where
+  pub text_unknown : line ≡ None → refusal_text 1 0 ≡ text_of s
   unfolding text_of text_after
   text_unknown u = sym (rw (sym e ∙ u))
 
-  module _ {k : Kind} (n : line ≡ Names k) where
+  module _ {k : Kind} (n : line ≡ Some k) where
     pub text_limit : table_limit < length (drop (length (line_of k)) s) → refusal_text 2 0 ≡ text_of s
     unfolding text_of text_after table_text
     text_limit h = sym (rw (sym e ∙ n, lt-leb (length (drop (length (line_of k)) s)) table_limit h))

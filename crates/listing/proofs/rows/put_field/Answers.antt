@@ -2,7 +2,7 @@ use Rattle.listing.proofs.RowNeeds.{fields}
 use Rattle.listing.proofs.rows.put_field.Goals as goal
 
 pub returns-then-shown : goal.returns-then-shown
-returns-then-shown c = search fields
+returns-then-shown g c = search fields
 
 pub returns : goal.returns
-returns c = search fields
+returns g c = search fields

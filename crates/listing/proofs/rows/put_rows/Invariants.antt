@@ -1,9 +1,6 @@
-use Prim.Native.Nat.{◌-◌}
-use Rattle.listing.proofs.RowNeeds.{Rowing}
+use Prim.Native.Nat.{◌*◌}
+use Rattle.listing.specs.Inner.{Prints, lines_to}
 use Rattle.listing.proofs.rows.put_rows.Given as goal
 
 abbrev pub invariant-loop-i : goal.invariant-loop-i
-invariant-loop-i l = Rowing l.kind l.offsets l.types l.symbols l.addends l.initial.page l.page l.at l.next l.count l.i
-
-abbrev pub decreases-loop-i : goal.decreases-loop-i
-decreases-loop-i l = l.count - l.i
+invariant-loop-i l = Prints l.initial.page l.page (lines_to l.kind l.columns l.i) (109 * l.i)

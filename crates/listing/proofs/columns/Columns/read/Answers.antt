@@ -1,5 +1,6 @@
-use Rattle.listing.proofs.TableNeeds.{readings}
-use Rattle.listing.proofs.tables.read.Goals as goal
+use Rattle.std.proofs.Common.{rules}
+use Rattle.listing.proofs.TableNeeds.{readings, relleb_eight}
+use Rattle.listing.proofs.columns.Columns.read.Goals as goal
 
 pub returns-in-Relr32 : goal.returns-in-Relr32
 returns-in-Relr32 c = search readings
@@ -17,4 +18,5 @@ pub returns-in-Relleb32 : goal.returns-in-Relleb32
 returns-in-Relleb32 c = search readings
 
 pub returns-in-Relleb64 : goal.returns-in-Relleb64
-returns-in-Relleb64 c = search readings
+returns-in-Relleb64 c =
+    relleb_eight _ _ _ _ _ (search rules) (search rules) (search rules) (search rules) c.in-Relleb64.is c.read-in-Relleb64.ensures
