@@ -11,10 +11,10 @@ use lib.ListN.{length, length-append}
 use mir.Syntax.{w64}
 use mir.Val.{Fits}
 use borrow.Author.Rules.{rules}
-use borrow.Author.Tests.{lt-ltb, le-leb}
+use borrow.Author.Tests.{lt-ltb, le-ltb, le-leb}
 use Rattle.answer.specs.declared.Refusal.{Refusal}
-use Rattle.answer.specs.declared.Refusal.TheVariants.{Limit, Missing, Space}
-use Rattle.std.specs.Prelude.{Result, Ok, Err, Option, None}
+use Rattle.answer.specs.declared.Refusal.TheVariants.{Limit, Missing, Space, Outside}
+use Rattle.std.specs.Prelude.{Result, Ok, Err}
 use Rattle.answer.specs.declared.Refused.{Refused}
 use Rattle.answer.proofs.Limits.{input_most}
 use Rattle.answer.specs.Outcome.{Outcome, found_of, input_limit, refused_at}
@@ -30,7 +30,7 @@ use Rattle.relr_table.specs.declared.place.Opened.{Opened}
 use Rattle.relr_table.specs.declared.place.Opened.TheVariants.{Address, Marks}
 use Rattle.relr_table.specs.Inner.{marks_of, OpensAt, Whole, words_read, between, Standing}
 use Rattle.relr_walk.specs.declared.skim.Passed.{Passed}
-use Rattle.relr_walk.specs.Inner.{grow, surveyed, Leads, Scanned, ScannedTo, Skimmable, Skims, origin, Begun}
+use Rattle.relr_walk.specs.Inner.{grow, surveyed, none, Leads, Scanned, ScannedTo, Skimmable, Skims, origin, Begun}
 use Rattle.relr_table.proofs.Decoding.{decode_long, decode_part, decode_whole, contained_space}
 use Rattle.relr_walk.proofs.SkimNeeds.{long, scan_load}
 use Rattle.relr_walk.proofs.Leads.{leads_begin, leads_more, leads_end}
@@ -40,22 +40,42 @@ use Rattle.relr_table.proofs.Passed.{fit_append, fit_one, fit_not, standing_begi
 use Rattle.relr_table.proofs.Marked.{marked_most}
 use Rattle.relr_table.proofs.SetBits.{Next, Left, left_begin, left_end, left_head, left_next, left_more, next_zeros, zeros_fit, zeros_far, zeros_less}
 
+-- ---- counting
+module _ (first count : ℕ) {b : Bool} where
+  pub grow_in : b ≡ true → first ≡ grow first count b
+  grow_in e = rw e
+
+  pub grow_here : b ≡ false → count < first → count ≡ grow first count b
+  grow_here e l = rw (e, lt-ltb count first l)
+
+  pub grow_before : b ≡ false → first ≤ count → first ≡ grow first count b
+  grow_before e l = rw (e, le-ltb count first l)
+
+module _ {first count : ℕ} where
+  pub survey_all : count ≤ first → Ok count ≡ surveyed count first
+  survey_all h = rw (le-ltb first count h)
+
+  pub survey_not : first < count → Err (refused_at Outside first) ≡ surveyed count first
+  survey_not h = rw (lt-ltb first count h)
+
+pub ruleset counting = (grow_in, grow_here, grow_before, survey_all, survey_not, rules)
+
 -- ---- between two words
-pub scan_begin : {k : Class} {s : List ℕ} (low high : ℕ) → Whole k s → Scanned k s low high 0 Nowhere 0 None
+pub scan_begin : {k : Class} {s : List ℕ} (low high : ℕ) → Whole k s → Scanned k s low high 0 Nowhere 0 none
 scan_begin {k} {s} low high h = record { list = []; standing = standing_begin k s h; counted = refl; lead = leads_begin (between low high); few = omega arith }
 
-pub scan_from : {k : Class} {s : List ℕ} {low high at count : ℕ} {p : Place} → Begun k s low high at p count → Scanned k s low high at p count None
-scan_from b = b.skimmed.on None (scan_begin _ _ b.whole)
+pub scan_from : {k : Class} {s : List ℕ} {low high at count : ℕ} {p : Place} → Begun k s low high at p count → Scanned k s low high at p count none
+scan_from b = b.skimmed.on none (scan_begin _ _ b.whole)
 
 pub scan_whole : {k : Class} {s : List ℕ} {low high at count : ℕ} {p : Place} → Begun k s low high at p count → Whole k s
 scan_whole b = b.whole
 
-pub skim_allowed : {k : Class} {s : List ℕ} {low high at count : ℕ} {first : Option ℕ} {p : Place} → Whole k s → Scanned k s low high at p count first
+pub skim_allowed : {k : Class} {s : List ℕ} {low high at count first : ℕ} {p : Place} → Whole k s → Scanned k s low high at p count first
     → Skimmable k s low high (record { at = at; place = p; count = count })
 skim_allowed w h = record { whole = w; first = _; scanned = h }
 
 -- ---- inside a word
-pub record Walking (k : Class) (s : List ℕ) (low high at count : ℕ) (first : Option ℕ) (anchor set : ℕ) (next : Place) (bits : ℕ) : Type 0 where
+pub record Walking (k : Class) (s : List ℕ) (low high at count first anchor set : ℕ) (next : Place) (bits : ℕ) : Type 0 where
   pub list : List ℕ
   pub passed : List ℕ
   pub word : Word k s list at anchor set next
@@ -66,11 +86,11 @@ pub record Walking (k : Class) (s : List ℕ) (low high at count : ℕ) (first :
   pub few : length list ≤ 64 * at
 
 -- from where a walk skimmed to
-module _ {k : Class} {s : List ℕ} {low high : ℕ} {first : Option ℕ} {from q : Passed} (h₀ : ScannedTo k s low high from first) (z : Skims k s low high from q) where
+module _ {k : Class} {s : List ℕ} {low high first : ℕ} {from q : Passed} (h₀ : ScannedTo k s low high from first) (z : Skims k s low high from q) where
   h : ScannedTo k s low high q first
   h = z.on first h₀
 
-  scan_small : Whole k s → q.count + 1 < 2 ^ 64
+  scan_small : Whole k s → q.count < none
   scan_small w = omega (arith, h.few, long h w, w.few, input_most)
 
   pub scan_fetch : q.at < length s → q.at + bytes_of k ≤ length s
@@ -80,7 +100,7 @@ module _ {k : Class} {s : List ℕ} {low high : ℕ} {first : Option ℕ} {from 
   scan_less l ce = omega (arith, z.ahead, bytes_least k)
 
   pub scan_end : Whole k s → {r : Result ℕ Refused} → r ≡ surveyed q.count first → length s ≤ q.at → r ≡ found_of (contained (between low high) (words_read k s))
-  scan_end w e l = e ∙ leads_end h.counted h.lead (standing_end h.standing l)
+  scan_end w e l = e ∙ leads_end h.counted (scan_small w) h.lead (standing_end h.standing l)
 
   module _ {x : ℕ} {r : Result Opened Refusal} (l : q.at < length s) (e : x ≡ word_at k s q.at) (o : OpensAt k q.place x r) where
     pub scan_refused : {why : Refusal} → r ≡ Err why → Err (refused_at why q.at) ≡ found_of (contained (between low high) (words_read k s))
@@ -90,7 +110,7 @@ module _ {k : Class} {s : List ℕ} {low high : ℕ} {first : Option ℕ} {from 
       pub scan_count : Whole k s → Fits w64 (q.count + 1)
       scan_count w = record { fits = omega (arith, scan_small w) }
 
-      pub scan_one : {c : ℕ} {x' : Option ℕ} {b : Bool} → Whole k s → c ≡ bytes_of k → b ≡ between low high y → x' ≡ grow first q.count b
+      pub scan_one : {c x' : ℕ} {b : Bool} → Whole k s → c ≡ bytes_of k → b ≡ between low high y → x' ≡ grow first q.count b
           → Scanned k s low high (q.at + c) next (q.count + 1) x'
       scan_one {c} w ce be gr =
           let a = word_one h.standing l e o (g ∙ ap Ok f) in
@@ -100,7 +120,7 @@ module _ {k : Class} {s : List ℕ} {low high : ℕ} {first : Option ℕ} {from 
             list = h.list ++ y ∷ [];
             standing = rw (ce, ← m) st;
             counted = omega (arith, h.counted, length-append h.list (y ∷ []));
-            lead = rw (gr, be) (leads_more h.counted y h.lead);
+            lead = rw (gr, be) (leads_more h.counted y (scan_small w) h.lead);
             few = omega (arith, h.few, bytes_least k);
           }
 
@@ -108,7 +128,7 @@ module _ {k : Class} {s : List ℕ} {low high : ℕ} {first : Option ℕ} {from 
       pub scan_reach : (last : ℕ) → last + bytes_of k ≡ space_of k → anchor ≤ last
       scan_reach last lg = omega (arith, (word_marks h.standing l e o (g ∙ ap Ok f)).in_space)
 
-pub walk_begin : {k : Class} {s : List ℕ} {low high at count x : ℕ} {first : Option ℕ} {p : Place} {r : Result Opened Refusal} {t : Opened} {anchor set : ℕ} {next : Place} → Scanned k s low high at p count first
+pub walk_begin : {k : Class} {s : List ℕ} {low high at count first x : ℕ} {p : Place} {r : Result Opened Refusal} {t : Opened} {anchor set : ℕ} {next : Place} → Scanned k s low high at p count first
     → at < length s → x ≡ word_at k s at → OpensAt k p x r → r ≡ Ok t → t ≡ Marks anchor set next → Walking k s low high at count first anchor set next set
 unfolding fit
 walk_begin {k} {anchor = anchor} {set = set} h l e o g f =
@@ -124,7 +144,7 @@ walk_begin {k} {anchor = anchor} {set = set} h l e o g f =
       few = omega (arith, h.few, h.counted);
     }
 
-module _ {k : Class} {s : List ℕ} {low high at count : ℕ} {first : Option ℕ} {anchor set : ℕ} {next : Place} {bits : ℕ} (h : Walking k s low high at count first anchor set next bits) where
+module _ {k : Class} {s : List ℕ} {low high at count first anchor set : ℕ} {next : Place} {bits : ℕ} (h : Walking k s low high at count first anchor set next bits) where
   module _ (nz : bits ≡ 0 → ⊥) where
     -- the location of the lowest bit left
     abbrev x : ℕ
@@ -149,7 +169,7 @@ module _ {k : Class} {s : List ℕ} {low high at count : ℕ} {first : Option �
           rw (left_head h.left zeros, fit_append (bytes_of k) (space_of k) h.passed (x ∷ q) h.fits) (fit_not (bytes_of k) (space_of k) x q a) in
           sym (found_refused (contained_refused (between low high) (h.word.so ∙ rw f (after_refused h.list Space at))))
 
-      pub walk_set : {first' : Option ℕ} {b : Bool} → Whole k s → at < length s → count_trailing_zeros 64 bits * c ≤ last - anchor → b ≡ between low high (anchor + count_trailing_zeros 64 bits * c)
+      pub walk_set : {first' : ℕ} {b : Bool} → Whole k s → at < length s → count_trailing_zeros 64 bits * c ≤ last - anchor → b ≡ between low high (anchor + count_trailing_zeros 64 bits * c)
           → first' ≡ grow first count b → anchor ≤ last → Walking k s low high at (count + 1) first' anchor set next (bit_and bits (bits - 1))
       walk_set w lt l be e m =
           let a : x + bytes_of k ≤ space_of k = omega (arith, ap (λ (y : ℕ). count_trailing_zeros 64 bits * y) ce) in
@@ -161,7 +181,7 @@ module _ {k : Class} {s : List ℕ} {low high at count : ℕ} {first : Option �
             left = left_next h.left zeros;
             fits = fit_append (bytes_of k) (space_of k) h.passed (x ∷ []) h.fits ∙ fit_one (bytes_of k) (space_of k) x a;
             counted = rw (← b) (omega (arith, h.counted, length-append (h.list ++ h.passed) (x ∷ [])));
-            lead = rw (← b, e, be, ce) (leads_more h.counted x h.lead);
+            lead = rw (← b, e, be, ce) (leads_more h.counted x (omega (arith, walk_small w lt)) h.lead);
             few = h.few;
           }
 
@@ -211,7 +231,7 @@ module _ (k : Class) (s : List ℕ) (low high : ℕ) where
       pub find_all : length s ≤ q.at → Ok q.count ≡ found_of (contained (between low high) (decode k s))
       find_all l =
           let b = scan_begin low high whole in
-          find_words (scan_end b p whole refl l)
+          find_words (scan_end b p whole (survey_all (omega (arith, scan_small b p whole))) l)
 
 pub ruleset finding = (find_long, find_part, find_begin, find_words, find_rest, find_all, rules)
 

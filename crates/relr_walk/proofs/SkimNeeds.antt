@@ -188,7 +188,7 @@ module _ (k : Class) (low top clear : ℕ) where
 pub ruleset nears = (near_address, near_word, near_other, near_fence, rules)
 
 -- the offsets passed are at most 64 for each word
-module _ {k : Class} {s : List ℕ} {low high at count : ℕ} {first : Option ℕ} {p : Place} (h : Scanned k s low high at p count first) where
+module _ {k : Class} {s : List ℕ} {low high at count first : ℕ} {p : Place} (h : Scanned k s low high at p count first) where
   pub long : Whole k s → at ≤ length s + 8
   long w = go h.standing.left h.standing.long
     where
@@ -223,7 +223,7 @@ module _ {k : Class} {s : List ℕ} {low high at count : ℕ} {first : Option �
 -- ---- words that are skimmed
 pub record Skimming (k : Class) (s : List ℕ) (low high at₀ : ℕ) (p₀ : Place) (count₀ at : ℕ) (p : Place) (count : ℕ) : Type 0 where
   pub ahead : at₀ ≤ at
-  pub on : (first : Option ℕ) → Scanned k s low high at₀ p₀ count₀ first → Scanned k s low high at p count first
+  pub on : (first : ℕ) → Scanned k s low high at₀ p₀ count₀ first → Scanned k s low high at p count first
 
 pub skim_begin : (k : Class) (s : List ℕ) (low high at : ℕ) (p : Place) (count : ℕ) → Skimming k s low high at p count at p count
 skim_begin k s low high at p count = record { ahead = omega arith; on = λ first h. h }
