@@ -4,20 +4,15 @@
 ghost use Rattle.std.specs.Prelude.{◌≡◌};
 ghost use Rattle.relleb_table.specs.Contract.{even, Reads, Writes};
 
-use answer::{Answer, Found, Refusal};
+use answer::{Answer, Refusal};
 use word::Size;
 
 // Whether four columns have one length.
+#[tactic(auto, unfolding(relleb_table::specs::Contract::even))]
 fn same_length(offsets: usize, types: usize, symbols: usize, addends: usize) -> bool
     ensures { result ≡ even offsets types symbols addends }
 {
-    if offsets != types {
-        return false;
-    }
-    if offsets != symbols {
-        return false;
-    }
-    offsets == addends
+    offsets == types && offsets == symbols && offsets == addends
 }
 
 // The records of a table, into a column for each field. Strictly a padded number is refused, and an addend's difference of 0.
@@ -40,8 +35,8 @@ pub fn read(
     }
     let width = kind.bits();
     match relleb_read::check(strict, table, width) {
-        Found::Refused(why, place) => answer::refuse(why, place),
-        Found::Count(count) => {
+        Err(refused) => refused.into(),
+        Ok(count) => {
             if (offsets.len() as u64) < count {
                 return answer::short_of(count);
             }
@@ -70,8 +65,8 @@ pub fn write(
     }
     let width = kind.bits();
     match relleb_write::measure(kind, offsets, types, symbols, addends) {
-        Found::Refused(why, place) => answer::refuse(why, place),
-        Found::Count(need) => {
+        Err(refused) => refused.into(),
+        Ok(need) => {
             if (table.len() as u64) < need {
                 return answer::short_of(need);
             }

@@ -16,10 +16,10 @@ returns-then-offsets-count c = search reading
 
 pub fill-requires : goal.fill-requires
 fill-requires c =
-    (search reading, fillable _ _ _ _ _ _ _ c.check.ensures c.in-Count.is c.same_length.ensures (search rules) c.if-offsets-count.false)
+    (search reading, fillable _ _ _ _ _ _ _ c.check.ensures c.in-Ok.is c.same_length.ensures (search rules) c.if-offsets-count.false)
 
-pub returns-in-Refused : goal.returns-in-Refused
-returns-in-Refused c = search reading
+pub returns-in-Err : goal.returns-in-Err
+returns-in-Err c = search reading
 
 pub returns-else-offsets-count : goal.returns-else-offsets-count
 returns-else-offsets-count c = search reading

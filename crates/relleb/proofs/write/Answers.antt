@@ -16,8 +16,8 @@ returns-then-table-need c = search writing
 pub fill-requires : goal.fill-requires
 fill-requires c = (search writing, record { same = search writing; fits = search writing })
 
-pub returns-in-Refused : goal.returns-in-Refused
-returns-in-Refused c = search writing
+pub returns-in-Err : goal.returns-in-Err
+returns-in-Err c = search writing
 
 pub returns-else-table-need : goal.returns-else-table-need
 returns-else-table-need c = search writing
