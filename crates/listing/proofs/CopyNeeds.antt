@@ -1,6 +1,6 @@
 -- The text handed out, as the code asks it.
 -- Assumes nothing.
-use Prim.Native.Nat.{ℕ, ◌+◌, ◌≤◌, ◌<◌}
+use Prim.Native.Nat.{ℕ, ◌≤◌, ◌<◌}
 use mathlib.Core.Path.{◌≡◌, refl, ap, sym, ◌∙◌}
 use mathlib.Core.List.{List, ◌++◌}
 use native.Mathlib.Omega.{arith}
@@ -8,7 +8,7 @@ use lib.ListN.{length, drop}
 use borrow.Author.Rules.{rules}
 use Rattle.answer.specs.declared.Answer.{Answer}
 use Rattle.answer.specs.Outcome.{accepted, success, no_room, itself}
-use Rattle.answer.specs.Outcome.Laws.{Counted, answer_fits, answer_long, filled_self, filled_long, buffer_more, buffer_long}
+use Rattle.answer.specs.Outcome.Laws.{Counted, answer_fits, answer_long, filled_self, filled_long}
 use Rattle.listing.specs.Text.{text_of, text_room}
 use Rattle.listing.specs.Contract.{Lists}
 use Rattle.listing.specs.Inner.{Copies}
@@ -32,5 +32,3 @@ pub listed : (input lent : List ℕ) {page bytes new : List ℕ} {r : Answer} �
 listed input lent {page} {bytes} {new} {r} e h f c =
     let d : Copies (text_of input) lent r new = rw (sym e ∙ sym f) c in
     record { answer = d.answer; text = d.text; few = omega (arith, ap length e) }
-
-pub ruleset listings = (listed, rules)

@@ -1,13 +1,12 @@
 -- Fields, lines and lists of lines on a page, as the code asks it.
 -- Assumes nothing.
-use Prim.Native.Nat.{ℕ, ◌+◌, ◌*◌, ◌^◌, ◌≤◌, ◌<◌}
-use mathlib.Core.Path.{◌≡◌, refl, ap, sym}
-use mathlib.Core.Bool.{Bool, true, false}
+use Prim.Native.Nat.{ℕ, ◌+◌, ◌*◌, ◌^◌, ◌<◌}
+use mathlib.Core.Path.{◌≡◌, ap, sym}
+use mathlib.Core.Bool.{Bool, true}
 use mathlib.Core.List.{List, [], ◌∷◌, ◌++◌, append-nil}
 use native.Mathlib.Numerals.{add-one}
 use native.Mathlib.Omega.{arith}
-use lib.IntN.{ℤ, pos}
-use lib.ListN.{length, get_or}
+use lib.IntN.{ℤ}
 use mir.Syntax.{w64}
 use mir.Val.{SFits, to_z, of_z}
 use mir.Facts.{to_z-of_z}
@@ -16,21 +15,9 @@ use Rattle.std.specs.Fmt as fmt
 use Rattle.relleb_table.specs.Table.{Row, row}
 use Rattle.listing.specs.declared.kind.Kind.{Kind}
 use Rattle.listing.specs.declared.columns.Columns.{Columns}
-use Rattle.listing.specs.Text.{decimal, decimal_signed, has_type, has_addend, header, field, row_text, rows_to}
+use Rattle.listing.specs.Text.{has_type, has_addend, field, row_text, rows_to}
 use Rattle.listing.specs.Inner.{Prints, row_in, lines_to}
-use Rattle.listing.proofs.PutNeeds.{put_put, put_same, decimal_same, signed_same}
-
--- ---- a field
-module _ (t : List ℕ) {old mid new : List ℕ} {shown : Bool} (p : Prints old mid (9 ∷ []) 1) where
-  pub field_some : {m : ℕ} → shown ≡ true → Prints mid new t m → Prints old new (field shown t) (2 + m)
-  unfolding field
-  field_some e q = rw e (put_put p q (omega arith))
-
-  pub field_none : (m : ℕ) → shown ≡ false → Prints mid new (45 ∷ []) 1 → Prints old new (field shown t) (2 + m)
-  unfolding field
-  field_none m e q = rw e (put_put p q (omega arith))
-
-pub ruleset fields = (field_some, field_none, rules)
+use Rattle.listing.proofs.PutNeeds.{put_put, decimal_same, signed_same}
 
 -- ---- a line; an addend is handed to a callee by its bits
 pub row_put : (k : Kind) (i o t y : ℕ) (a : ℤ) {p0 p1 p2 p3 p4 p5 p6 : List ℕ} {typed signed : Bool}
@@ -43,8 +30,6 @@ unfolding row_text
 row_put k i o t y a hi ho ht hy ha e f a1 a2 a3 a4 a5 a6 =
     rw (← decimal_same i hi, ← decimal_same o ho, ← decimal_same t (omega arith), ← decimal_same y (omega arith), ← signed_same a ha.sfits, ← to_z-of_z {w = w64} ha, ← e, ← f)
     (put_put {m = 88} (put_put {m = 66} (put_put {m = 54} (put_put {m = 42} (put_put a1 a2 (omega arith)) a3 (omega arith)) a4 (omega arith)) a5 (omega arith)) a6 (omega arith))
-
-pub ruleset rows = (row_put, rules)
 
 -- ---- the lines of the first records of the columns
 module _ (k : Kind) (c : Columns) where

@@ -22,7 +22,6 @@ use Rattle.apr1_table.specs.Contract as apr1
 use Rattle.apa1_table.specs.Table as apa1
 use Rattle.apa1_table.specs.Contract as apa1-contract
 use Rattle.apa1_table.specs.Contract.Laws as apa1-laws
-use Rattle.relleb_table.specs.Table as relleb
 use Rattle.relleb_table.specs.Table.{Row, row}
 use Rattle.relleb_table.specs.Contract as relleb-contract
 use Rattle.relleb_table.specs.Contract.Laws as relleb-laws
@@ -30,11 +29,11 @@ use Rattle.listing.specs.declared.kind.Kind.{Kind}
 use Rattle.listing.specs.declared.kind.Kind.TheVariants.{Relr32, Relr64, Apr1, Apa1, Relleb32, Relleb64}
 use Rattle.std.specs.Prelude.{Option, Some, None}
 use Rattle.std.specs.Fmt as fmt
-use Rattle.listing.specs.Text.{decimal, line_of, tried, first_line, has_type, has_addend, offset_row, pair_row, mapped, rows_of, header, refused_word, row_text, row_at, rows_to, refusal_text, record_limit, table_limit, printed, text_of}
+use Rattle.listing.specs.Text.{line_of, tried, first_line, has_type, has_addend, offset_row, pair_row, mapped, rows_of, header, refused_word, row_text, row_at, refusal_text, record_limit, table_limit, printed, text_of}
 use Rattle.listing.specs.Text.Laws.{answer_mapped, source, offset_line, pair_line, rows_all, printed_rows, printed_refusal, text_unknown, text_limit, text_table}
 use Rattle.listing.specs.declared.columns.Columns.{Columns}
 use Rattle.listing.specs.Inner.{Prints, Reads, lines_to}
-use Rattle.listing.proofs.PutNeeds.{put_put, put_same, decimal_same}
+use Rattle.listing.proofs.PutNeeds.{put_put, decimal_same}
 
 abbrev none : Row
 none = row 0 0 0 (pos 0)

@@ -1,6 +1,6 @@
 -- What the inner functions promise.
 -- Assumes nothing.
-use Rattle.std.specs.Prelude.{ℕ, ◌≤◌, ◌<◌, ◌≡◌, List, ℤ, pos, length, take, get_or, ◌++◌}
+use Rattle.std.specs.Prelude.{ℕ, ◌≤◌, ◌<◌, ◌≡◌, List, pos, length, get_or, ◌++◌}
 use Rattle.answer.specs.declared.Answer.{Answer}
 use Rattle.answer.specs.Outcome.{accepted, answer_in, filled, itself}
 use Rattle.relleb_table.specs.Table.{Row, row}

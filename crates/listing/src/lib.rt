@@ -32,6 +32,7 @@ fn copy(bytes: &[u8], text: &mut [u8]) -> Answer
 }
 
 // The text for an input, at the front of the lent bytes.
+#[tactic(auto, using(crate::proofs::CopyNeeds::listed))]
 pub fn list(input: &[u8], text: &mut [u8]) -> Answer
     ensures { Lists input.now text.old result text.new }
 {

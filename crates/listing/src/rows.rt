@@ -9,6 +9,7 @@ use crate::page::Page;
 use itoa::Integer;
 
 // A field behind a tab: a number, or `-` where the kind has none.
+#[tactic(auto, using(crate::proofs::PutNeeds::put_put), unfolding(crate::specs::Text::field))]
 fn put_field<I: Integer>(page: &mut Page, shown: bool, x: I)
     requires { length page.old + (2 + I.MAX_STR_LEN) ≤ text_room }
     ensures { Prints page.old page.new (field shown (I.text x)) (2 + I.MAX_STR_LEN) }
