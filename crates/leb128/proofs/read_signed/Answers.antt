@@ -1,20 +1,10 @@
-use Rattle.leb128.proofs.Answers.{singles}
+use mir.Syntax.{w64}
+use mir.Facts.{to_z-of_z}
+use Rattle.leb128.proofs.Answers.{single_signed}
 use Rattle.leb128.proofs.read_signed.Goals as goal
 
-pub byte_at-b-requires : goal.byte_at-b-requires
-byte_at-b-requires c = search singles
-
-pub overflow_add-past : goal.overflow_add-past
-overflow_add-past c = search singles
-
-pub signed_byte-requires : goal.signed_byte-requires
-signed_byte-requires c = search singles
-
 pub returns-then-width-gt6 : goal.returns-then-width-gt6
-returns-then-width-gt6 c = search singles
-
-pub scan_signed-requires : goal.scan_signed-requires
-scan_signed-requires c = search singles
-
-pub returns : goal.returns
-returns c = search singles
+returns-then-width-gt6 c =
+    let e = c.in-Some.ensures.lookup in
+    rw (to_z-of_z {w = w64} {z = c.signed_byte.result} (record { sfits = c.signed_byte.type_inv }))
+    (single_signed _ _ _ _ _ e.0 e.1 c.if-b-lt128.true c.if-width-gt6.true c.signed_byte.ensures)
