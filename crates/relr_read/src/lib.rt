@@ -19,10 +19,10 @@ fn fill_marks(k: Class, column: &mut [u64], at: usize, anchor: u64, set: u64) ->
     let mut bits = set;
     let mut i = at;
     while bits != 0 {
-        let zeros = u64::trailing_zeros(bits) as u64;
+        let zeros = bits.trailing_zeros() as u64;
         column[i] = anchor + zeros * (k.bytes() as u64);
         i += 1;
-        bits = bits & (bits - 1);
+        bits &= bits - 1;
     }
     i
 }
@@ -36,7 +36,7 @@ fn fill_run(k: Class, column: &mut [u64], at: usize, anchor: u64) -> usize
     let mut x = anchor;
     for location in &mut column[at..next] {
         *location = x;
-        x = std::num::wrapping_add_u64(x, place::step(k, at));
+        x = x.wrapping_add(place::step(k, at));
     }
     next
 }
@@ -56,7 +56,7 @@ fn fill_window(
 {
     let mut i = at;
     for j in 0..k.window() as u64 {
-        column[i] = std::num::wrapping_add_u64(anchor, j * (k.bytes() as u64));
+        column[i] = anchor.wrapping_add(j * (k.bytes() as u64));
         i += ((set >> j) % 2) as usize;
     }
     i
@@ -104,9 +104,9 @@ fn fill(k: Class, s: &[u8], count: usize, column: &mut [u64])
             i += 1;
             behind = x;
         } else {
-            let anchor = std::num::wrapping_add_u64(behind, c as u64);
+            let anchor = behind.wrapping_add(c as u64);
             i = fill_bitmap(k, &mut *column, count, i, anchor, x / 2);
-            behind = std::num::wrapping_add_u64(behind, stride);
+            behind = behind.wrapping_add(stride);
         }
     }
 }

@@ -48,7 +48,7 @@ fn top(k: Class, high: u64) -> u64
 fn marks(set: u64) -> u64
     ensures { (c n anchor : ℕ) → set < 2 ^ n → result ≡ length (marked c n set anchor) }
 {
-    u64::count_ones(set) as u64
+    set.count_ones() as u64
 }
 
 // A word that is passed, with the next one's *where*: an address, or a bitmap with how many offsets it stands for.

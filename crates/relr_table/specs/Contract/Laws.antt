@@ -1,6 +1,6 @@
 -- A call for the class that a number names, from what it does for a class: n is what the number says, and a what is answered.
 -- Assumes nothing.
-use Rattle.std.specs.Prelude.{List, ◌≡◌, refl, ℕ}
+use Rattle.std.specs.Prelude.{List, ◌≡◌, refl, ℕ, Option, Some, None}
 use Rattle.std.proofs.Math.Path.{sym}
 use Rattle.std.proofs.Common.{◌∙◌, subst, arith, rules}
 use Rattle.answer.specs.declared.Answer.{Answer}
@@ -9,8 +9,6 @@ use Rattle.answer.specs.Outcome.{refused, refusal, Gives}
 use Rattle.answer.specs.Outcome.Laws.{answer_none, gives_refused}
 use Rattle.word.specs.declared.Size.{Size}
 use Rattle.word.specs.declared.ByteOrder.{ByteOrder}
-use Rattle.std.specs.Prelude.{Option}
-use Rattle.std.specs.Prelude.{Some, None}
 use Rattle.word.specs.Class.{class_in, class_of}
 use Rattle.relr_table.specs.Table.{decode, encode}
 use Rattle.relr_table.specs.Contract.{decoding, Reads, encoding, Writes, WritesIn, applying, image_after, Applies, AppliesIn}

@@ -4,8 +4,5 @@ use Rattle.relr_table.proofs.place.open.Goals as goal
 pub returns-then-x-eq0 : goal.returns-then-x-eq0
 returns-then-x-eq0 c = search opening
 
-pub open_bitmap-requires : goal.open_bitmap-requires
-open_bitmap-requires c = search opening
-
 pub returns : goal.returns
 returns c = search opening

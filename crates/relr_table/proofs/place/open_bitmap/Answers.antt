@@ -1,15 +1,6 @@
 use Rattle.relr_table.proofs.PlaceNeeds.{opening}
 use Rattle.relr_table.proofs.place.open_bitmap.Goals as goal
 
-pub last-requires : goal.last-requires
-last-requires c = search opening
-
-pub stride-requires : goal.stride-requires
-stride-requires c = search opening
-
-pub past-requires : goal.past-requires
-past-requires c = search opening
-
 pub returns-then-place-last : goal.returns-then-place-last
 returns-then-place-last c = search opening
 
