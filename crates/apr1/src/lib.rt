@@ -3,16 +3,15 @@
 
 ghost use Rattle.apr1_table.specs.Contract.{Reads, Writes};
 
-use answer::{Answer, Found};
-use apr1_write::Sized;
+use answer::Answer;
 
 // The offsets of a table, into a column. Strictly a padded number is refused.
 pub fn read(strict: bool, table: &[u8], offsets: &mut [u64]) -> Answer
     ensures { Reads strict table.now offsets.old result offsets.new }
 {
     match apr1_read::check(strict, table) {
-        Found::Refused(why, place) => answer::refuse(why, place),
-        Found::Count(count) => {
+        Err(refused) => refused.into(),
+        Ok(count) => {
             if (offsets.len() as u64) < count {
                 return answer::short_of(count);
             }
@@ -27,13 +26,13 @@ pub fn write(offsets: &[u64], table: &mut [u8]) -> Answer
     ensures { Writes offsets.now table.old result table.new }
 {
     match apr1_write::measure(offsets) {
-        Sized::Refused(why, place) => answer::refuse(why, place),
-        Sized::Table(pairs, need) => {
-            if (table.len() as u64) < need {
-                return answer::short_of(need);
+        Err(refused) => refused.into(),
+        Ok(need) => {
+            if (table.len() as u64) < need.bytes {
+                return answer::short_of(need.bytes);
             }
-            apr1_write::fill(offsets, table, pairs);
-            answer::accept(need)
+            apr1_write::fill(offsets, table, need.pairs);
+            answer::accept(need.bytes)
         }
     }
 }

@@ -262,9 +262,6 @@ module _ (l old : List ℕ) where
     pub write_short : {a : Answer} → length old < t.bytes → a ≡ no_room t.bytes → Gives (encode l) old a old
     write_short h q = gives_short old found refl h q
 
-    pub write_encodable : t.bytes ≤ length old → Encodable l old t.pairs
-    write_encodable h = record { writable = s.2; pairs = s.0; room = omega (arith, s.1) }
-
     pub write_full : {a : Answer} {new : List ℕ} → t.bytes ≤ length old → TablePut l old new → a ≡ success t.bytes → Gives (encode l) old a new
     write_full {new = new} h u q =
         let m : length (table_in l) ≤ length old = omega (arith, s.1) in
@@ -272,5 +269,3 @@ module _ (l old : List ℕ) where
         let k : 0 + length (table_in l) ≡ length (table_in l) = omega arith in
         let f : new ≡ filled itself (encode l) old = u ∙ sets-eq (table_in l) old 0 z ∙ rw k (sym (filled_self old (encode_accepts l s.2) m)) in
         gives_full old found refl h f q
-
-pub ruleset writes = (write_not, write_short, write_encodable, write_full, rules)

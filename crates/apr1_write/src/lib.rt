@@ -51,8 +51,8 @@ fn put_pair(table: &mut [u8], at: usize, c: u64, d: u64) -> usize
     requires { at + length (one_pair (pair c d)) ≤ length table.old }
     ensures { Written table.old table.new at result (one_pair (pair c d)) }
 {
-    let next = leb128::write_unsigned(&mut *table, at, c);
-    leb128::write_unsigned(&mut *table, next, d)
+    let next = leb128::write_unsigned(table, at, c);
+    leb128::write_unsigned(table, next, d)
 }
 
 // The identifier, the number of pairs and the first offset.
@@ -66,8 +66,8 @@ fn put_head(table: &mut [u8], n: u64, a: u64) -> usize
     requires { 0 + length (head_of n a) ≤ length table.old }
     ensures { Written table.old table.new 0 result (head_of n a) }
 {
-    let at = records::put_identifier(&mut *table, b"APR1");
-    put_pair(&mut *table, at, n, a)
+    let at = records::put_identifier(table, b"APR1");
+    put_pair(table, at, n, a)
 }
 
 // The first pass, over a list that is neither empty nor too long: the pairs and the bytes, or the first bad offset.
@@ -123,7 +123,7 @@ pub fn measure(offsets: &[u64]) -> Result<Need, Refused>
             place: 0,
         });
     }
-    if offsets.len() < 1 {
+    if offsets.is_empty() {
         return Err(Refused {
             why: Refusal::Empty,
             place: 0,
@@ -144,7 +144,7 @@ fn put_pairs(offsets: &[u64], table: &mut [u8], first: usize)
         let y = offsets[j];
         let d = y - x;
         let k = run_from(offsets, j + 1, y, d);
-        at = put_pair(&mut *table, at, k as u64 + 1, d);
+        at = put_pair(table, at, k as u64 + 1, d);
         x = y + (k as u64) * d;
         j = j + 1 + k;
     }
@@ -156,6 +156,6 @@ pub fn fill(offsets: &[u64], table: &mut [u8], pairs: u64)
     ensures { TablePut offsets.now table.old table.new }
 {
     let a = offsets[0];
-    let at = put_head(&mut *table, pairs, a);
+    let at = put_head(table, pairs, a);
     put_pairs(offsets, table, at);
 }

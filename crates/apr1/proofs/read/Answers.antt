@@ -9,8 +9,8 @@ returns-then-offsets-count c = search calls
 pub fill-requires : goal.fill-requires
 fill-requires c = search (fillable, rules)
 
-pub returns-in-Refused : goal.returns-in-Refused
-returns-in-Refused c = search calls
+pub returns-in-Err : goal.returns-in-Err
+returns-in-Err c = search calls
 
 pub returns-else-offsets-count : goal.returns-else-offsets-count
 returns-else-offsets-count c = search (reads_full, rules)

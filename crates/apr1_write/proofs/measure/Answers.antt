@@ -7,8 +7,8 @@ pub returns-then-offsets-gt-LIST_LIMIT : goal.returns-then-offsets-gt-LIST_LIMIT
 unfolding list_limit
 returns-then-offsets-gt-LIST_LIMIT c = search measures
 
-pub returns-then-offsets-lt1 : goal.returns-then-offsets-lt1
-returns-then-offsets-lt1 c = search measures
+pub returns-then-is_empty : goal.returns-then-is_empty
+returns-then-is_empty c = search measures
 
 pub size-requires : goal.size-requires
 unfolding list_limit
