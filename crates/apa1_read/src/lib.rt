@@ -21,15 +21,15 @@ pub struct Entry {
     pub past: usize,
 }
 
-// The record at a place, read laxly, after one with this offset and this addend.
-fn entry_at(s: &[u8], at: usize, offset: u64, addend: i64) -> Result<Entry, Refused>
-    ensures { entry_step result ≡ step_at false s.now at (row offset addend) }
+// The record behind the last one, read laxly.
+fn entry_after(s: &[u8], last: Entry) -> Result<Entry, Refused>
+    ensures { entry_step result ≡ step_at false s.now last.past (row last.offset last.addend) }
 {
-    let (d, next) = leb128::read_signed(false, s, at, 64)?;
+    let (d, next) = leb128::read_signed(false, s, last.past, 64)?;
     let (e, past) = leb128::read_signed(false, s, next, 64)?;
     Ok(Entry {
-        offset: wrap::moved(64, offset, d),
-        addend: wrap::add_signed(64, addend, e),
+        offset: wrap::moved(64, last.offset, d),
+        addend: wrap::add_signed(64, last.addend, e),
         past,
     })
 }
@@ -127,23 +127,23 @@ pub fn check(strict: bool, s: &[u8]) -> Result<u64, Refused>
     scan(strict, s)
 }
 
-// The second pass over records that the first accepted.
+// The second pass over records that the first accepted. Both sums start at 0.
 fn store(s: &[u8], count: u64, first: usize, offsets: &mut [u64], addends: &mut [i64])
     requires { Fillable (records (step_at false s.now) (length s.now) count first start) offsets.old addends.old }
     ensures { Filled (records (step_at false s.now) (length s.now) count first start) offsets.old addends.old offsets.new addends.new }
 {
-    let mut from = first;
-    let mut offset: u64 = 0;
-    let mut addend: i64 = 0;
+    let mut last = Entry {
+        offset: 0,
+        addend: 0,
+        past: first,
+    };
     for i in 0..count as usize {
-        let Ok(entry) = entry_at(s, from, offset, addend) else {
+        let Ok(entry) = entry_after(s, last) else {
             return;
         };
-        offset = entry.offset;
-        addend = entry.addend;
-        offsets[i] = offset;
-        addends[i] = addend;
-        from = entry.past;
+        offsets[i] = entry.offset;
+        addends[i] = entry.addend;
+        last = entry;
     }
 }
 

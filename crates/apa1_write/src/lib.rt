@@ -9,21 +9,28 @@ ghost use Rattle.answer.specs.Written.{Written};
 
 use answer::{LIST_LIMIT, Refusal, Refused};
 
-// How many bytes a record takes, after one with this offset and this addend.
-fn entry_len(offset: u64, addend: i64, before: u64, base: i64) -> usize
-    ensures { result ≡ length (entry_bytes (row before base) (row offset addend)) }
+// A record: an offset with its addend.
+#[derive(Clone, Copy)]
+struct Record {
+    offset: u64,
+    addend: i64,
+}
+
+// How many bytes a record takes, after the last one.
+fn entry_len(x: Record, last: Record) -> usize
+    ensures { result ≡ length (entry_bytes (row last.offset last.addend) (row x.offset x.addend)) }
 {
-    leb128::signed_len(wrap::distance(64, offset, before))
-        + leb128::signed_len(wrap::sub_signed(64, addend, base))
+    leb128::signed_len(wrap::distance(64, x.offset, last.offset))
+        + leb128::signed_len(wrap::sub_signed(64, x.addend, last.addend))
 }
 
 // Its bytes, at a place.
-fn put_entry(table: &mut [u8], at: usize, offset: u64, addend: i64, before: u64, base: i64) -> usize
-    requires { at + length (entry_bytes (row before base) (row offset addend)) ≤ length table.old }
-    ensures { Written table.old table.new at result (entry_bytes (row before base) (row offset addend)) }
+fn put_entry(table: &mut [u8], at: usize, x: Record, last: Record) -> usize
+    requires { at + length (entry_bytes (row last.offset last.addend) (row x.offset x.addend)) ≤ length table.old }
+    ensures { Written table.old table.new at result (entry_bytes (row last.offset last.addend) (row x.offset x.addend)) }
 {
-    let step = wrap::distance(64, offset, before);
-    let change = wrap::sub_signed(64, addend, base);
+    let step = wrap::distance(64, x.offset, last.offset);
+    let change = wrap::sub_signed(64, x.addend, last.addend);
     let next = leb128::write_signed(&mut *table, at, step);
     leb128::write_signed(&mut *table, next, change)
 }
@@ -51,12 +58,14 @@ fn size(offsets: &[u64], addends: &[i64]) -> u64
     ensures { Measures offsets.now addends.now (Ok result) }
 {
     let mut total = head_len(offsets.len());
-    let mut before: u64 = 0;
-    let mut base: i64 = 0;
+    let mut last = Record {
+        offset: 0,
+        addend: 0,
+    };
     for (&offset, &addend) in offsets.iter().zip(addends) {
-        total += entry_len(offset, addend, before, base);
-        before = offset;
-        base = addend;
+        let x = Record { offset, addend };
+        total += entry_len(x, last);
+        last = x;
     }
     total as u64
 }
@@ -81,12 +90,14 @@ fn put_all(offsets: &[u64], addends: &[i64], table: &mut [u8], first: usize)
     ensures { Puts (puts put_of behind 0 start (rows offsets.now addends.now)) table.old table.new first }
 {
     let mut at = first;
-    let mut before: u64 = 0;
-    let mut base: i64 = 0;
+    let mut last = Record {
+        offset: 0,
+        addend: 0,
+    };
     for (&offset, &addend) in offsets.iter().zip(addends) {
-        at = put_entry(&mut *table, at, offset, addend, before, base);
-        before = offset;
-        base = addend;
+        let x = Record { offset, addend };
+        at = put_entry(&mut *table, at, x, last);
+        last = x;
     }
 }
 

@@ -4,4 +4,4 @@ use Rattle.apa1_read.proofs.store.Given as goal
 
 abbrev pub invariant-loop-i : goal.invariant-loop-i
 invariant-loop-i l =
-    Storing false l.s l.count l.first l.initial.offsets l.initial.addends l.offsets l.addends l.i l.from l.offset l.addend
+    Storing false l.s l.count l.first l.initial.offsets l.initial.addends l.offsets l.addends l.i l.last.past l.last.offset l.last.addend
