@@ -212,6 +212,7 @@ fn scan(strict: bool, s: &[u8], width: u32) -> Result<u64, Refused>
 }
 
 // The count of the records of a table, or the refusal: first that of a table over its limit.
+#[tactic(auto, using(crate::proofs::PassNeeds::check_over, crate::proofs::PassNeeds::check_in), unfolding(answer::specs::Outcome::input_limit))]
 pub fn check(strict: bool, s: &[u8], width: u32) -> Result<u64, Refused>
     requires { IsWidth width }
     ensures { result ≡ found_of (decode strict width s.now) }

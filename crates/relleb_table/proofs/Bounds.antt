@@ -29,26 +29,26 @@ module _ (strict : Bool) (W : ℕ) (s : List ℕ) where
   -- a record has at least three bytes
   addend_moves : (base : ℤ) (o t y at next : ℕ) → at + 2 < next → (u : Signed) → read_signed strict W s next ≡ u → Moves 3 (length s) at (with_addend strict W next base o t y u)
   unfolding with_addend
-  addend_moves base o t y at next h (Ok (z , past)) e =
+  addend_moves base o t y at next h (Ok (z, past)) e =
       let v = signed_value strict W s next z past e in
       of_cond (Moves 3 (length s) at) (no_change strict z) (none Zero next) (one _ past _) tt (omega (arith, v.1), v.2)
   addend_moves base o t y at next h (Err x) e = tt
 
   symbol_moves : (base : ℤ) (o t at next : ℕ) → at + 1 < next → (u : Signed) → read_signed strict 33 s next ≡ u → Moves 3 (length s) at (with_symbol strict W s base o t u)
   unfolding with_symbol
-  symbol_moves base o t at next h (Ok ((pos y) , past)) e = let v = signed_value strict 33 s next (pos y) past e in (omega (arith, v.1), v.2)
-  symbol_moves base o t at next h (Ok ((negsuc y) , past)) e =
+  symbol_moves base o t at next h (Ok ((pos y), past)) e = let v = signed_value strict 33 s next (pos y) past e in (omega (arith, v.1), v.2)
+  symbol_moves base o t at next h (Ok ((negsuc y), past)) e =
       addend_moves base o t y at past (omega (arith, (signed_value strict 33 s next (negsuc y) past e).1)) (read_signed strict W s past) refl
   symbol_moves base o t at next h (Err x) e = tt
 
   type_moves : (prev : State) (o at next : ℕ) → at < next → (u : Signed) → read_signed strict 32 s next ≡ u → Moves 3 (length s) at (with_type strict W s prev o u)
   unfolding with_type
-  type_moves prev o at next h (Ok (d , past)) e = symbol_moves prev.addend o _ at past (omega (arith, (signed_value strict 32 s next d past e).1)) (read_signed strict 33 s past) refl
+  type_moves prev o at next h (Ok (d, past)) e = symbol_moves prev.addend o _ at past (omega (arith, (signed_value strict 32 s next d past e).1)) (read_signed strict 33 s past) refl
   type_moves prev o at next h (Err x) e = tt
 
   offset_moves : (prev : State) (at : ℕ) (u : Unsigned) → read_unsigned strict W s at ≡ u → Moves 3 (length s) at (with_offset strict W s prev u)
   unfolding with_offset
-  offset_moves prev at (Ok (d , next)) e = type_moves prev _ at next (unsigned_value strict W s at d next e).1 (read_signed strict 32 s next) refl
+  offset_moves prev at (Ok (d, next)) e = type_moves prev _ at next (unsigned_value strict W s at d next e).1 (read_signed strict 32 s next) refl
   offset_moves prev at (Err x) e = tt
 
   moves : (at : ℕ) (prev : State) → Moves 3 (length s) at (step_at strict W s at prev)
@@ -56,7 +56,7 @@ module _ (strict : Bool) (W : ℕ) (s : List ℕ) where
   moves at prev = offset_moves prev at (read_unsigned strict W s at) refl
 
   count_ends : (strict : Bool) (u : Unsigned) → read_unsigned strict 64 s 0 ≡ u → Ends (length s) u
-  count_ends strict (Ok (n , first)) e = (unsigned_value strict 64 s 0 n first e).2
+  count_ends strict (Ok (n, first)) e = (unsigned_value strict 64 s 0 n first e).2
   count_ends strict (Err x) e = tt
 
   most : length s ≤ input_limit → OfList (λ (l : List Row). length l ≤ input_limit / 3) (parse strict W s)

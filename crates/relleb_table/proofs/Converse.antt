@@ -61,7 +61,7 @@ module _ (W : ℕ) (wide : IsWidth W) (s : List ℕ) (bytes : Bytes s) where
   from_addend : (base : ℤ) (o t y at next past : ℕ) (x : Row) (now : State) (u : Signed) → read_signed true 33 s at ≡ ok_at (negsuc y) next → read_signed true W s next ≡ u
       → with_addend true W next base o t y u ≡ one x past now → Tail base o t at x past now
   unfolding with_addend
-  from_addend base o t y at next past x now (Ok (e , p)) f g h = go (no_change true e) refl h
+  from_addend base o t y at next past x now (Ok (e, p)) f g h = go (no_change true e) refl h
     where
       a : ℤ
       a = wrapped W (base +ℤ e)
@@ -84,14 +84,14 @@ module _ (W : ℕ) (wide : IsWidth W) (s : List ℕ) (bytes : Bytes s) where
   from_symbol : (base : ℤ) (o t at past : ℕ) (x : Row) (now : State) (u : Signed) → mag base < 2 ^ (W - 1) → read_signed true 33 s at ≡ u
       → with_symbol true W s base o t u ≡ one x past now → Tail base o t at x past now
   unfolding with_symbol
-  from_symbol base o t at past x now (Ok ((pos y) , next)) h f g =
+  from_symbol base o t at past x now (Ok ((pos y), next)) h f g =
       let is : row o t y base ≡ x = cc in
       let q : next ≡ past = cc in
       let v = short_signed (pos y) in
       let w : drop at s ≡ (v ++ []) ++ drop past s =
       strict_signed 33 s at (omega arith) bytes f ∙ ap₂ (λ (a : List ℕ) (n : ℕ). a ++ drop n s) (sym (append-nil v)) q in
       rw (← is) (record { offset = refl; type = refl; ranged = h; state = cc; here = rw (field_same base o t y) w })
-  from_symbol base o t at past x now (Ok ((negsuc y) , next)) h f g = from_addend base o t y at next past x now (read_signed true W s next) f refl g
+  from_symbol base o t at past x now (Ok ((negsuc y), next)) h f g = from_addend base o t y at next past x now (read_signed true W s next) f refl g
   from_symbol base o t at past x now (Err e) h f g = let z : ◌≡◌ {A = ℕ} 0 1 = cc in absurd (omega arith)
 
   -- ---- a record: its differences are the numbers that stand there
@@ -101,7 +101,7 @@ module _ (W : ℕ) (wide : IsWidth W) (s : List ℕ) (bytes : Bytes s) where
   from_type : (at next past d : ℕ) (prev : State) (x : Row) (now : State) (u : Signed) → Ranged W prev → read_unsigned true W s at ≡ ok_at d next → read_signed true 32 s next ≡ u
       → with_type true W s prev ((prev.offset + d) % 2 ^ W) u ≡ one x past now → AsWritten at prev x past now
   unfolding with_type
-  from_type at next past d prev x now (Ok (t , p)) r e f g =
+  from_type at next past d prev x now (Ok (t, p)) r e f g =
       let w : 0 < 32 = omega arith in
       let z = from_symbol prev.addend ((prev.offset + d) % 2 ^ W) (residue 32 (pos prev.type +ℤ t)) p past x now (read_signed true 33 s p) r refl g in
       let y = field_of prev.addend x in
@@ -123,7 +123,7 @@ module _ (W : ℕ) (wide : IsWidth W) (s : List ℕ) (bytes : Bytes s) where
 
   from_offset : (at past : ℕ) (prev : State) (x : Row) (now : State) (u : Unsigned) → Ranged W prev → read_unsigned true W s at ≡ u → with_offset true W s prev u ≡ one x past now → AsWritten at prev x past now
   unfolding with_offset
-  from_offset at past prev x now (Ok (d , next)) r e g = from_type at next past d prev x now (read_signed true 32 s next) r e refl g
+  from_offset at past prev x now (Ok (d, next)) r e g = from_type at next past d prev x now (read_signed true 32 s next) r e refl g
   from_offset at past prev x now (Err bad) r e g = let z : ◌≡◌ {A = ℕ} 0 1 = cc in absurd (omega arith)
 
   record_forth : (at : ℕ) (prev : State) (x : Row) (past : ℕ) (now : State) → Ranged W prev → step_at true W s at prev ≡ one x past now → AsWritten at prev x past now

@@ -20,23 +20,23 @@ module _ (P : Said) (strict : Bool) (W : ℕ) (s : List ℕ) (counts : (strict :
     (zero : (at past : ℕ) (e : ℤ) → read_signed strict W s at ≡ ok_at e past → P Zero at) (over : (at : ℕ) → at < length s → P Trailing at) where
   addend : (at : ℕ) (base : ℤ) (o t y : ℕ) (u : Signed) → read_signed strict W s at ≡ u → OfSigned P u → OfStep P (with_addend strict W at base o t y u)
   unfolding with_addend
-  addend at base o t y (Ok (e , past)) f h = of_cond (OfStep P) (no_change strict e) (none Zero at) (one _ past _) (zero at past e f) tt
+  addend at base o t y (Ok (e, past)) f h = of_cond (OfStep P) (no_change strict e) (none Zero at) (one _ past _) (zero at past e f) tt
   addend at base o t y (Err e) f h = h
 
   symbol : (base : ℤ) (o t : ℕ) (u : Signed) → OfSigned P u → OfStep P (with_symbol strict W s base o t u)
   unfolding with_symbol
-  symbol base o t (Ok ((pos y) , next)) h = tt
-  symbol base o t (Ok ((negsuc y) , next)) h = addend next base o t y (read_signed strict W s next) refl (addends next)
+  symbol base o t (Ok ((pos y), next)) h = tt
+  symbol base o t (Ok ((negsuc y), next)) h = addend next base o t y (read_signed strict W s next) refl (addends next)
   symbol base o t (Err e) h = h
 
   type : (prev : State) (o : ℕ) (u : Signed) → OfSigned P u → OfStep P (with_type strict W s prev o u)
   unfolding with_type
-  type prev o (Ok (d , next)) h = symbol prev.addend o _ (read_signed strict 33 s next) (symbols next)
+  type prev o (Ok (d, next)) h = symbol prev.addend o _ (read_signed strict 33 s next) (symbols next)
   type prev o (Err e) h = h
 
   offset : (prev : State) (u : Unsigned) → OfUnsigned P u → OfStep P (with_offset strict W s prev u)
   unfolding with_offset
-  offset prev (Ok (d , next)) h = type prev _ (read_signed strict 32 s next) (types next)
+  offset prev (Ok (d, next)) h = type prev _ (read_signed strict 32 s next) (types next)
   offset prev (Err e) h = h
 
   step : (at : ℕ) (prev : State) → OfStep P (step_at strict W s at prev)

@@ -1,6 +1,6 @@
 -- The needs of the writers of a record's numbers, as the code asks them.
 -- Assumes nothing.
-use Prim.Native.Nat.{ℕ, ◌+◌, ◌-◌, ◌^◌, ◌≤◌, ◌<◌}
+use Prim.Native.Nat.{ℕ, ◌+◌, ◌-◌, ◌^◌, ◌≤◌}
 use mathlib.Core.Path.{◌≡◌, ap, ap₂, sym, ◌∙◌}
 use mathlib.Core.Bool.{Bool, true, false, not, cond}
 use mathlib.Core.List.{List, [], ◌++◌, append-nil}
@@ -9,16 +9,15 @@ use lib.Dec.{ltb}
 use lib.IntN.{ℤ, pos, negsuc, ◌-ℤ◌}
 use lib.ListN.{length, length-append}
 use lib.Signed.{mag}
-use mir.Syntax.{w32, w64}
+use mir.Syntax.{w64}
 use mir.Val.{to_z, of_z, Fits, SFits}
-use mir.Facts.{to_z_pos, to_z-of_z}
+use mir.Facts.{to_z-of_z}
 use borrow.Author.Rules.{rules}
 use borrow.Author.Tests.{not-true, not-false}
 use Rattle.answer.specs.declared.Refusal.TheVariants.{Space, Addend}
 use Rattle.answer.specs.Written.{Written, written_then}
 use Rattle.leb128.specs.Number.{short_unsigned, short_signed, is_neg}
 use Rattle.leb128.proofs.RoundTrip.{unsigned_bytes, signed_bytes}
-use Rattle.leb128.proofs.Signs.{minus_is}
 use Rattle.records.specs.Writing.{bytes}
 use Rattle.records.specs.Writing as Writing
 use Rattle.wrap.specs.Wrap.{residue, wrapped, same}
@@ -29,21 +28,6 @@ use Rattle.relleb_table.specs.Table.Laws.{put_space, put_addend, put_bytes, entr
 -- a signed number as the code passes it on: by its bits
 abbrev pub Bits : ℤ → ℤ
 Bits z = to_z w64 (of_z w64 z)
-
--- ---- the symbol field
-module _ {t : Bool} (y : ℕ) (h : Fits w32 y) where
-  pub symbol_same : t ≡ true → to_z w64 y ≡ cond t (pos y) (negsuc y)
-  symbol_same e = let l : y < 2 ^ 63 = omega (arith, h.fits) in rw e (to_z_pos w64 l)
-
-  pub symbol_other : t ≡ false → Bits (negsuc 0 -ℤ to_z w64 y) ≡ cond t (pos y) (negsuc y)
-  symbol_other e =
-      let l : y < 2 ^ 63 = omega (arith, h.fits) in
-      rw e (ap Bits (minus_is l) ∙ to_z-of_z {w = w64} (record { sfits = l }))
-
-pub symbol_fits : (y : ℕ) → Fits w32 y → SFits w64 (negsuc 0 -ℤ to_z w64 y)
-symbol_fits y h = let l : y < 2 ^ 63 = omega (arith, h.fits) in rw (minus_is l) (record { sfits = l })
-
-pub ruleset symbols = (symbol_same, symbol_other, symbol_fits, rules)
 
 -- ---- the numbers of a record
 module _ (W o k y b l : ℕ) (a c : ℤ) {t : Bool} (e : t ≡ ltb o (2 ^ W)) where

@@ -26,7 +26,7 @@ use Rattle.records.proofs.Writing.{Sized, sized_none, sized_more, sized_bad, siz
 use Rattle.relleb_table.specs.Table.{Row, row, State, state, start, behind, rows, field_bytes, put_of, build, encode}
 use Rattle.relleb_table.specs.Table.Laws.{rows_from_law, build_is, encode_over, encode_in, encode_accepted}
 use Rattle.relleb_table.specs.Contract.{Same}
-use Rattle.relleb_table.specs.Contract.Laws.{many, class_width, measures_at}
+use Rattle.relleb_table.specs.Contract.Laws.{many}
 use Rattle.relleb_table.specs.Inner.{Listed, Measures, Puttable}
 use Rattle.relleb_table.proofs.RoundTrip.{put_is, decode_encode, rows_fine}
 use Rattle.relleb_write.specs.Inner.{Measured}
@@ -99,8 +99,6 @@ module _ (W : ℕ) {os ts ys : List ℕ} {us : List ℤ} (same : Same os ts ys u
   measure_over h =
       let e = encode_over W (rows os ts ys us) (omega (arith, many os ts ys us same)) in
       record { found = sym (found_refused e); back = λ strict b f. absurd (accepted_refused f e); wide = λ v k. absurd (omega arith) }
-
-pub ruleset measures = (measure_over, class_width, measures_at, rules)
 
 -- ---- the second pass
 abbrev pub body : ℕ → List ℕ → List ℕ → List ℕ → List ℤ → Outcome (List ℕ)

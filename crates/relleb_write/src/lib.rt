@@ -146,6 +146,7 @@ fn size(
 
 // How many bytes a table of a class takes, or the refusal: first that of a list over its limit. The first pass is a loop for each class,
 // with the class's width in it.
+#[tactic(auto, unfolding(answer::specs::Outcome::list_limit))]
 pub fn measure(
     kind: Size,
     offsets: &[u64],

@@ -44,7 +44,7 @@ module _ (strict : Bool) (W : ℕ) (s : List ℕ) where
 
   addend : (at : ℕ) (base : ℤ) (o t y : ℕ) (u : Signed) → read_signed strict W s at ≡ u → Unless none (Spelled W s) (with_addend strict W at base o t y u) (with_addend false W at base o t y u)
   unfolding with_addend
-  addend at base o t y (Ok (e , past)) f = go (no_change strict e) refl
+  addend at base o t y (Ok (e, past)) f = go (no_change strict e) refl
     where
       go : (b : Bool) → no_change strict e ≡ b → Unless none (Spelled W s) (cond b (none Zero at) (one (row o t y (wrapped W (base +ℤ e))) past (state o t (wrapped W (base +ℤ e)))))
           (one (row o t y (wrapped W (base +ℤ e))) past (state o t (wrapped W (base +ℤ e))))
@@ -54,22 +54,22 @@ module _ (strict : Bool) (W : ℕ) (s : List ℕ) where
 
   symbol : (base : ℤ) (o t : ℕ) (u : Signed) → Unless none (Spelled W s) (with_symbol strict W s base o t u) (with_symbol false W s base o t u)
   unfolding with_symbol with_addend
-  symbol base o t (Ok ((pos y) , next)) = same refl
-  symbol base o t (Ok ((negsuc y) , next)) =
+  symbol base o t (Ok ((pos y), next)) = same refl
+  symbol base o t (Ok ((negsuc y), next)) =
       unless_at err_at none (Spelled W s) (with_addend strict W next base o t y) (with_addend false W next base o t y) (λ why p. refl)
       (read_signed strict W s next) (read_signed false W s next) (addend next base o t y (read_signed strict W s next) refl) (unless_signed (Spelled W s) strict W s next (λ h. inl (refl, inr (inr (inr (inr h))))))
   symbol base o t (Err e) = same refl
 
   type : (prev : State) (o : ℕ) (u : Signed) → Unless none (Spelled W s) (with_type strict W s prev o u) (with_type false W s prev o u)
   unfolding with_type with_symbol
-  type prev o (Ok (d , next)) =
+  type prev o (Ok (d, next)) =
       unless_then err_at none (Spelled W s) (with_symbol strict W s prev.addend o _) (with_symbol false W s prev.addend o _) (λ why p. refl) (symbol prev.addend o _)
       (read_signed strict 33 s next) (read_signed false 33 s next) (unless_signed (Spelled W s) strict 33 s next (λ h. inl (refl, inr (inr (inr (inl h))))))
   type prev o (Err e) = same refl
 
   offset : (prev : State) (u : Unsigned) → Unless none (Spelled W s) (with_offset strict W s prev u) (with_offset false W s prev u)
   unfolding with_offset with_type
-  offset prev (Ok (d , next)) =
+  offset prev (Ok (d, next)) =
       unless_then err_at none (Spelled W s) (with_type strict W s prev _) (with_type false W s prev _) (λ why p. refl) (type prev _)
       (read_signed strict 32 s next) (read_signed false 32 s next) (unless_signed (Spelled W s) strict 32 s next (λ h. inl (refl, inr (inr (inl h)))))
   offset prev (Err e) = same refl
