@@ -22,10 +22,6 @@ put_put {old} {a = a} {b = b} p q h =
       few = omega (arith, p.few, q.few, length-append a b);
     }
 
--- the same bytes, another bound
-pub put_same : {old new a b : List ℕ} {m n : ℕ} → Prints old new a m → a ≡ b → m ≤ n → Prints old new b n
-put_same p e h = rw (← e) (record { is = p.is; few = omega (arith, p.few) })
-
 -- ---- the library's decimal form of a number of 64 bits is this crate's
 pub decimal_same : (n : ℕ) → n < 2 ^ 64 → fmt.decimal n ≡ decimal n
 decimal_same =
