@@ -1,11 +1,12 @@
--- Decimal numbers, one digit at a time; the cases of an outcome's text.
+-- Decimal numbers, one digit at a time, and their length; the cases of an outcome's text.
 -- Assumes nothing.
 use Rattle.std.proofs.Math.Path.{◌≡◌, refl, sym, ap}
-use Rattle.std.proofs.Common.{◌∙◌, arith, take-suc}
+use Rattle.std.proofs.Common.{◌∙◌, arith, length-append, take-suc}
 use mathlib.Core.List.{List, [], ◌∷◌, ◌++◌, map, append-nil, append_assoc}
 use Rattle.std.specs.Prelude.{Bool, take, drop, get_or, ltb, leb, ℤ, pos, negsuc, Option, Some, None}
 use Rattle.std.proofs.Math.Bool.{true, false, cond}
-use Prim.Native.Nat.{ℕ, zero, suc, ◌+◌, ◌/◌, ◌%◌, ◌≤◌, ◌<◌}
+use Prim.Native.Nat.{ℕ, zero, suc, ◌+◌, ◌*◌, ◌/◌, ◌%◌, ◌^◌, ◌≤◌, ◌<◌}
+use Rattle.std.proofs.Math.Decide.{dec_lt}
 use Rattle.std.proofs.Math.ListN.{length}
 use Rattle.std.proofs.lemmas.List.{length-map}
 use Rattle.std.proofs.Math.Seq.{take-length, length-take-le}
@@ -15,6 +16,18 @@ use Rattle.answer.specs.Outcome.{number_of, Outcome, accepted, refused, success,
 use Rattle.relleb_table.specs.Table.{Row}
 use Rattle.listing.specs.declared.kind.Kind.{Kind}
 use Rattle.listing.specs.Text.{dash, digits_by, decimal, decimal_signed, line_of, first_line, has_type, has_addend, mapped, rows_of, header, field, row_text, rows_from, row_at, rows_to, refusal_text, record_limit, table_limit, printed, table_text, text_after, text_of}
+
+-- induction on the digits
+digit_ind {ℓ} : (P : ℕ → Type ℓ) → ((m : ℕ) → m < 10 → P m) → ((m : ℕ) → 10 ≤ m → P (m / 10) → P m) → (m : ℕ) → P m
+digit_ind P base step m = go m m (omega arith)
+  where
+    choose : (f m : ℕ) → m ≤ suc f → ((k : ℕ) → k ≤ f → P k) → Dec (m < 10) → P m
+    choose f m h ih (yes l) = base m l
+    choose f m h ih (no l) = step m (omega arith) (ih (m / 10) (omega arith))
+
+    go : (f m : ℕ) → m ≤ f → P m
+    go zero m h = base m (omega arith)
+    go (suc f) m h = choose f m h (go f) (dec_lt m 10)
 
 -- any bound that is no less than the number gives the same digits
 enough : (f g m : ℕ) → m ≤ f → m ≤ g → digits_by f m ≡ digits_by g m
@@ -36,6 +49,31 @@ decimal_more zero h = absurd (omega arith)
 decimal_more (suc m) h =
     rw (le-ltb (suc m) 10 h)
     (ap (λ (l : List ℕ). l ++ ((48 + suc m % 10) ∷ [])) (enough m (suc m / 10) (suc m / 10) (omega arith) (omega arith)))
+
+pub length_one : (m : ℕ) → m < 10 → length (decimal m) ≡ 1
+length_one m h = rw (decimal_one m h)
+
+pub length_more : (m : ℕ) → 10 ≤ m → length (decimal m) ≡ length (decimal (m / 10)) + 1
+length_more m h = rw (decimal_more m h) (length-append (decimal (m / 10)) ((48 + m % 10) ∷ []))
+
+-- there is a digit
+pub decimal_some : (m : ℕ) → 0 < length (decimal m)
+decimal_some = digit_ind (λ (m : ℕ). 0 < length (decimal m)) (λ m h. omega (arith, length_one m h)) (λ m h ih. omega (arith, length_more m h))
+
+-- a number below 10 ^ (k + 1) has at most k + 1 digits
+decimal_le : (m k : ℕ) → m < 10 * 10 ^ k → length (decimal m) ≤ k + 1
+decimal_le = digit_ind (λ (m : ℕ). (k : ℕ) → m < 10 * 10 ^ k → length (decimal m) ≤ k + 1)
+    (λ m h k l. omega (arith, length_one m h))
+    (λ m h ih k l. more m k h ih l)
+  where
+    more : (m k : ℕ) → 10 ≤ m → ((k : ℕ) → m / 10 < 10 * 10 ^ k → length (decimal (m / 10)) ≤ k + 1)
+        → m < 10 * 10 ^ k → length (decimal m) ≤ k + 1
+    more m zero h ih l = absurd (omega arith)
+    more m (suc k) h ih l = omega (arith, length_more m h, ih k (omega arith))
+
+-- a number of 64 bits has at most 20 digits
+pub decimal_most : (m : ℕ) → m < 2 ^ 64 → length (decimal m) ≤ 20
+decimal_most m h = decimal_le m 19 (omega arith)
 
 pub signed_plus : (n : ℕ) → decimal_signed (pos n) ≡ decimal n
 unfolding decimal_signed
