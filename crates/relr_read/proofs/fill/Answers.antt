@@ -34,14 +34,8 @@ loop-at-smaller-then-x-eq0 c = search readings
 pub loop-at-preserved-then-x-eq0 : goal.loop-at-preserved-then-x-eq0
 loop-at-preserved-then-x-eq0 c = search readings
 
-pub wrapping_add_u64-anchor-requires : goal.wrapping_add_u64-anchor-requires
-wrapping_add_u64-anchor-requires c = search readings
-
 pub fill_bitmap-i-requires : goal.fill_bitmap-i-requires
 fill_bitmap-i-requires c = search readings
-
-pub wrapping_add_u64-behind-requires : goal.wrapping_add_u64-behind-requires
-wrapping_add_u64-behind-requires c = search readings
 
 pub loop-at-smaller : goal.loop-at-smaller
 loop-at-smaller c = search readings
