@@ -29,18 +29,18 @@ use Rattle.apa1_read.specs.Inner.{entry_step, Skips}
 abbrev pub body : Bool → List ℕ → ℕ → ℕ → Outcome (List Row)
 body strict s n first = records (step_at strict s) (length s) n first start
 
--- ---- the first pass: the i records before a place led to some sums
-pub record Walking (strict : Bool) (s : List ℕ) (n first i at : ℕ) : Type 0 where
+-- ---- the first pass: the records before a place led to some sums
+pub record Walking (strict : Bool) (s : List ℕ) (n first left at : ℕ) : Type 0 where
   pub prev : Row
-  pub scanned : Scanned (step_at strict s) (length s) (body strict s n first) n (n - i) at prev
+  pub scanned : Scanned (step_at strict s) (length s) (body strict s n first) n left at prev
 
-pub walk_begin : (strict : Bool) (s : List ℕ) (n first : ℕ) → Walking strict s n first 0 first
+pub walk_begin : (strict : Bool) (s : List ℕ) (n first : ℕ) → Walking strict s n first (n - 0) first
 walk_begin strict s n first =
     let e : n - 0 ≡ n = omega arith in
     record { prev = start; scanned = rw e (scanned_none (step_at strict s) (length s) n first start) }
 
-module _ {strict : Bool} {s : List ℕ} {n first i at : ℕ} (w : Walking strict s n first i at) where
-  pub walk_more : {past : ℕ} → i < n → Skips strict s at (Ok past) → Walking strict s n first (i + 1) past
+module _ {strict : Bool} {s : List ℕ} {n first i at : ℕ} (w : Walking strict s n first (n - i) at) where
+  pub walk_more : {past : ℕ} → i < n → Skips strict s at (Ok past) → Walking strict s n first (n - (i + 1)) past
   walk_more h f =
       let (y, g) = f w.prev in
       let e : n - (i + 1) ≡ n - i - 1 = omega arith in
@@ -57,18 +57,18 @@ module _ {strict : Bool} {s : List ℕ} {n first i at : ℕ} (w : Walking strict
 
 -- ---- the second pass
 -- the records before a place stand in the columns, and w is the last addend
-pub record Storing (strict : Bool) (s : List ℕ) (n first : ℕ) (os₀ : List ℕ) (us₀ : List ℤ) (os : List ℕ) (us : List ℤ) (i at o : ℕ) (w : ℤ) : Type 0 where
+pub record Storing (strict : Bool) (s : List ℕ) (n first : ℕ) (os₀ : List ℕ) (us₀ : List ℤ) (os : List ℕ) (us : List ℤ) (left at o : ℕ) (w : ℤ) (i : ℕ) : Type 0 where
   pub list : List Row
-  pub stored : Stored (step_at strict s) (length s) (body strict s n first) list (n - i) at (row o w) i
+  pub stored : Stored (step_at strict s) (length s) (body strict s n first) list left at (row o w) i
   pub offsets : Column offset_of list i os₀ os
   pub addends : Column addend_of list i us₀ us
 
-pub store_begin : (strict : Bool) (s : List ℕ) (n first : ℕ) (os : List ℕ) (us : List ℤ) → Storing strict s n first os us os us 0 first 0 (pos 0)
+pub store_begin : (strict : Bool) (s : List ℕ) (n first : ℕ) (os : List ℕ) (us : List ℤ) → Storing strict s n first os us os us (n - 0) first 0 (pos 0) 0
 store_begin strict s n first os us =
     let e : n - 0 ≡ n = omega arith in
     record { list = []; stored = rw e (stored_none (step_at strict s) (length s) n first start); offsets = column_none offset_of os; addends = column_none addend_of us }
 
-module _ {strict : Bool} {s : List ℕ} {n first : ℕ} {os₀ : List ℕ} {us₀ : List ℤ} {os : List ℕ} {us : List ℤ} {i at o : ℕ} {w : ℤ} (f : Fillable (body strict s n first) os₀ us₀) (g : Storing strict s n first os₀ us₀ os us i at o w) where
+module _ {strict : Bool} {s : List ℕ} {n first : ℕ} {os₀ : List ℕ} {us₀ : List ℤ} {os : List ℕ} {us : List ℤ} {i at o : ℕ} {w : ℤ} (f : Fillable (body strict s n first) os₀ us₀) (g : Storing strict s n first os₀ us₀ os us (n - i) at o w i) where
   within : i ≤ length os₀
   within = stored_within f.fitting g.stored
 
@@ -91,7 +91,7 @@ module _ {strict : Bool} {s : List ℕ} {n first : ℕ} {os₀ : List ℕ} {us�
     pub store_in_2 : i < length us
     store_in_2 = omega (arith, old_in, store_same_2, f.same)
 
-    pub store_more : Storing strict s n first os₀ us₀ (set os i x.offset) (set us i x.addend) (i + 1) x.past x.offset x.addend
+    pub store_more : Storing strict s n first os₀ us₀ (set os i x.offset) (set us i x.addend) (n - (i + 1)) x.past x.offset x.addend (i + 1)
     store_more =
         let k : n - (i + 1) ≡ n - i - 1 = omega arith in
         record {

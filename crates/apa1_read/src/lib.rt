@@ -21,8 +21,8 @@ pub struct Entry {
     pub past: usize,
 }
 
-// The record behind the last one, read laxly.
-fn entry_after(s: &[u8], last: Entry) -> Result<Entry, Refused>
+// The record at the place past the last one, read laxly.
+fn entry_at(s: &[u8], last: Entry) -> Result<Entry, Refused>
     ensures { entry_step result ≡ step_at false s.now last.past (row last.offset last.addend) }
 {
     let (d, next) = leb128::read_signed(false, s, last.past, 64)?;
@@ -138,7 +138,7 @@ fn store(s: &[u8], count: u64, first: usize, offsets: &mut [u64], addends: &mut 
         past: first,
     };
     for i in 0..count as usize {
-        let Ok(entry) = entry_after(s, last) else {
+        let Ok(entry) = entry_at(s, last) else {
             return;
         };
         offsets[i] = entry.offset;

@@ -3,7 +3,7 @@ use borrow.Author.Rules.{rules}
 use Rattle.answer.specs.Outcome.Laws.{handed_on}
 use Rattle.apa1_read.specs.Inner.{entry_step}
 use Rattle.apa1_read.proofs.EntryNeeds.{entry_not, entry_not_2, entry_is}
-use Rattle.apa1_read.proofs.entry_after.Goals as goal
+use Rattle.apa1_read.proofs.entry_at.Goals as goal
 
 pub returns-in_err-d : goal.returns-in_err-d
 returns-in_err-d c = ap entry_step (handed_on _ c.in_err-d.field-0.0 c.from_residual.ensures.1) ∙ entry_not _ _ _ _ _ c.in_err-d.ensures
