@@ -9,12 +9,10 @@ use Rattle.word.specs.Class.Laws.{bytes_least, bytes_most, by_bytes}
 use Rattle.relr_table.specs.Words.{Where, nowhere, from, falls, bit, word, write, table}
 use Rattle.relr_table.specs.Table.{space_of, checked}
 use Rattle.relr_table.specs.Place.{Place, Beyond, Stands, inside, unset, past}
-use Rattle.relr_write.specs.declared.packer.Location.{Location}
-use Rattle.relr_write.specs.declared.packer.Location.TheVariants.{On, Off}
+use Rattle.std.specs.Prelude.{Result, Ok, Err, Option, Some, None}
 use Rattle.relr_write.specs.declared.packer.Pending.{Pending}
 use Rattle.relr_write.specs.declared.packer.Packed.TheVariants.{Joined, Flushed, Alone}
 use Rattle.relr_write.specs.Inner.{Near, falls_at, Located, LocatedAt, Small, ForwardFrom, words_for, Bits, Holding, Adds, Precedes, Acts, Packs, fault_of}
-use Rattle.relr_write.specs.declared.Fault.TheVariants.{Clean, Bad}
 use Rattle.relr_table.proofs.Marked.{falls_on, on_falls}
 use Rattle.relr_table.proofs.Steps.{falls_low, write_join, write_flush, write_word}
 use Rattle.relr_table.proofs.PlaceNeeds.{stands_inside, bitmap_in}
@@ -25,16 +23,16 @@ use Rattle.answer.specs.Outcome.{Outcome, refused}
 
 -- ---- a bad offset
 module _ (k : Class) (x least : ℕ) where
-  pub fault_odd : x % 2 ≡ 1 → Bad Odd ≡ fault_of k x least
+  pub fault_odd : x % 2 ≡ 1 → Err Odd ≡ fault_of k x least
   fault_odd e = rw e
 
-  pub fault_space : {last : ℕ} → last < x → last + bytes_of k ≡ space_of k → (x % 2 ≡ 1 → ⊥) → Bad Space ≡ fault_of k x least
+  pub fault_space : {last : ℕ} → last < x → last + bytes_of k ≡ space_of k → (x % 2 ≡ 1 → ⊥) → Err Space ≡ fault_of k x least
   fault_space h e o = rw (ne_eqb (x % 2) 1 o, lt-ltb (space_of k) (x + bytes_of k) (omega arith))
 
-  pub fault_order : {last : ℕ} → x < least → x ≤ last → last + bytes_of k ≡ space_of k → (x % 2 ≡ 1 → ⊥) → Bad Order ≡ fault_of k x least
+  pub fault_order : {last : ℕ} → x < least → x ≤ last → last + bytes_of k ≡ space_of k → (x % 2 ≡ 1 → ⊥) → Err Order ≡ fault_of k x least
   fault_order l h e o = rw (ne_eqb (x % 2) 1 o, le-ltb (space_of k) (x + bytes_of k) (omega arith), lt-ltb x least l)
 
-  pub fault_none : {last : ℕ} → least ≤ x → x ≤ last → last + bytes_of k ≡ space_of k → (x % 2 ≡ 1 → ⊥) → Clean ≡ fault_of k x least
+  pub fault_none : {last : ℕ} → least ≤ x → x ≤ last → last + bytes_of k ≡ space_of k → (x % 2 ≡ 1 → ⊥) → Ok tt ≡ fault_of k x least
   fault_none l h e o = rw (ne_eqb (x % 2) 1 o, le-ltb (space_of k) (x + bytes_of k) (omega arith), le-ltb x least l)
 
 -- what a clean offset is
@@ -43,11 +41,11 @@ pub record Sound (k : Class) (x least : ℕ) : Type 0 where
   pub in_space : x + bytes_of k ≤ space_of k
   pub above : least ≤ x
 
-pub sound : (k : Class) (x least : ℕ) → fault_of k x least ≡ Clean → Sound k x least
+pub sound : (k : Class) (x least : ℕ) → fault_of k x least ≡ Ok tt → Sound k x least
 sound k x least e = go (eqb (x % 2) 1) refl (ltb (space_of k) (x + bytes_of k)) refl (ltb x least) refl e
   where
     go : (a : Bool) → eqb (x % 2) 1 ≡ a → (b : Bool) → ltb (space_of k) (x + bytes_of k) ≡ b → (c : Bool) → ltb x least ≡ c
-        → cond a (Bad Odd) (cond b (Bad Space) (cond c (Bad Order) Clean)) ≡ Clean → Sound k x least
+        → cond a (Err Odd) (cond b (Err Space) (cond c (Err Order) (Ok (tt {0})))) ≡ Ok (tt {0}) → Sound k x least
     go true p b q c r f = let z : ◌≡◌ {A = ℕ} 0 1 = cc in absurd (omega arith)
     go false p true q c r f = let z : ◌≡◌ {A = ℕ} 0 1 = cc in absurd (omega arith)
     go false p false q true r f = let z : ◌≡◌ {A = ℕ} 0 1 = cc in absurd (omega arith)
@@ -58,12 +56,12 @@ sound k x least e = go (eqb (x % 2) 1) refl (ltb (space_of k) (x + bytes_of k)) 
         even : (x % 2 ≡ 1 → ⊥) → x % 2 ≡ 0
         even n = elim (ℕ_discrete (x % 2) 0) [ yes z ↦ z | no z ↦ absurd (n (omega arith)) ]
 
-pub checked_bad : (k : Class) (x least i : ℕ) (l : List ℕ) (o : Outcome (List ℕ)) {why : Refusal} → fault_of k x least ≡ Bad why
+pub checked_bad : (k : Class) (x least i : ℕ) (l : List ℕ) (o : Outcome (List ℕ)) {why : Refusal} → fault_of k x least ≡ Err why
     → checked (bytes_of k) (space_of k) i least (x ∷ l) o ≡ refused why i
 unfolding checked
 checked_bad k x least i l o {why} e = go (eqb (x % 2) 1) (ltb (space_of k) (x + bytes_of k)) (ltb x least) e
   where
-    go : (a b c : Bool) → cond a (Bad Odd) (cond b (Bad Space) (cond c (Bad Order) Clean)) ≡ Bad why
+    go : (a b c : Bool) → cond a (Err Odd) (cond b (Err Space) (cond c (Err Order) (Ok (tt {0})))) ≡ Err why
         → cond a (refused Odd i) (cond b (refused Space i) (cond c (refused Order i) (checked (bytes_of k) (space_of k) (suc i) (suc x) l o))) ≡ refused why i
     go true b c f = cc
     go false true c f = cc
@@ -97,7 +95,7 @@ even_whole : (k : Class) (d : ℕ) → d % bytes_of k ≡ 0 → d % 2 ≡ 0
 even_whole k d = by_bytes (λ (n : ℕ). d % n ≡ 0 → d % 2 ≡ 0) (λ h. omega arith) (λ h. omega arith) k
 
 -- an offset of the space is below each number that is none
-off_low : (k : Class) (p : Place) (x : ℕ) → x + bytes_of k ≤ space_of k → x < p → LocatedAt k p x Off
+off_low : (k : Class) (p : Place) (x : ℕ) → x + bytes_of k ≤ space_of k → x < p → LocatedAt k p x None
 off_low k p x h l w (inside e g) = rw e (falls_low (bytes_of k) (window_of k) p x l)
 off_low k p x h l w (unset e f) = rw e
 off_low k p x h l w (past v e g f) = rw e (falls_low (bytes_of k) (window_of k) v x (omega arith))
@@ -107,7 +105,7 @@ module _ (k : Class) (p : Place) (x d j n : ℕ) (h : x + bytes_of k ≤ space_o
   in_space : p ≤ x → p + bytes_of k ≤ space_of k
   in_space l = omega arith
 
-  pub off_at : d < 2 ^ 64 → p < 2 ^ 64 → n ≤ j → LocatedAt k p x Off
+  pub off_at : d < 2 ^ 64 → p < 2 ^ 64 → n ≤ j → LocatedAt k p x None
   off_at dl pl far = go (dec_lt x p)
     where
       high : p ≤ x → falls (bytes_of k) (window_of k) p x ≡ false
@@ -118,7 +116,7 @@ module _ (k : Class) (p : Place) (x d j n : ℕ) (h : x + bytes_of k ≤ space_o
             | no z ↦ falls_rest (bytes_of k) (window_of k) p x (rw e z)
           ]
 
-      go : Dec (x < p) → LocatedAt k p x Off
+      go : Dec (x < p) → LocatedAt k p x None
       go (yes l) = off_low k p x h l
       go (no l) = λ w s. let g : p ≤ x = omega arith in rw (stands_inside (in_space g) s) (high g)
 
@@ -139,7 +137,7 @@ module _ (k : Class) (p : Place) (x d j n : ℕ) (h : x + bytes_of k ≤ space_o
         go (yes z) = omega (arith, near z, small)
         go (no z) = absurd (omega (arith, even_whole k d whole))
 
-    pub on_at : LocatedAt k p x (On j)
+    pub on_at : LocatedAt k p x (Some j)
     on_at w s =
         let l : p ≤ x = omega (arith, sum) in
         let e : x - p ≡ d = omega (arith, sum) in
@@ -193,7 +191,7 @@ module _ (k : Class) (p : Pending) (x : ℕ) where
         is = λ m. write_join (bytes_of k) (window_of k) x m v p.bits f ∙ rw (re, je);
       }
 
-  join_acts : (j r : ℕ) → LocatedAt k p.place x (On j) → r ≡ 2 ^ j → (w : Where) (lo : ℕ) → Holding k lo w p.place p.bits → lo ≤ x
+  join_acts : (j r : ℕ) → LocatedAt k p.place x (Some j) → r ≡ 2 ^ j → (w : Where) (lo : ℕ) → Holding k lo w p.place p.bits → lo ≤ x
       → Acts k lo w p x (Joined (record { place = p.place; bits = p.bits + r }))
   join_acts j r o re w lo h l =
       let (v, e, f, je) = o w h.stands in
@@ -213,7 +211,7 @@ unfolding table
 alone_words k nowhere x l e = refl
 alone_words k (from v) x l e = write_word (bytes_of k) (window_of k) x l v e
 
-alone_acts : (k : Class) (p : Pending) (q : Place) (c x : ℕ) → LocatedAt k p.place x Off → p.bits ≤ 0 → c ≡ bytes_of k → Stands k (from (x + c)) q → (w : Where) (lo : ℕ)
+alone_acts : (k : Class) (p : Pending) (q : Place) (c x : ℕ) → LocatedAt k p.place x None → p.bits ≤ 0 → c ≡ bytes_of k → Stands k (from (x + c)) q → (w : Where) (lo : ℕ)
     → Holding k lo w p.place p.bits → lo ≤ x → Acts k lo w p x (Alone (record { place = q; bits = 0 }))
 alone_acts k p q c x o z ce s w lo h l =
     let be : p.bits ≡ 0 = omega arith in (
@@ -257,7 +255,7 @@ module _ (k : Class) (p : Pending) (x : ℕ) (pos : 0 < p.bits) where
           is = λ m. flushed_words v m f;
         }
 
-flush_acts : (k : Class) (p : Pending) (next : Place) (x : ℕ) → LocatedAt k p.place x Off → 0 < p.bits → ForwardFrom k p.place next → (w : Where) (lo : ℕ)
+flush_acts : (k : Class) (p : Pending) (next : Place) (x : ℕ) → LocatedAt k p.place x None → 0 < p.bits → ForwardFrom k p.place next → (w : Where) (lo : ℕ)
     → Holding k lo w p.place p.bits → lo ≤ x → Acts k lo w p x (Flushed (2 * p.bits + 1) (record { place = next; bits = 0 }))
 flush_acts k p next x o pos fw w lo h l =
     let (v, e) = some_from k p x pos w lo h.bits in
@@ -266,10 +264,10 @@ flush_acts k p next x o pos fw w lo h l =
 
 -- as the code asks them
 module _ (k : Class) (p : Pending) (x : ℕ) where
-  pub join_is : (j r : ℕ) → LocatedAt k p.place x (On j) → r ≡ 2 ^ j → Packs k p x (Joined (record { place = p.place; bits = p.bits + r }))
+  pub join_is : (j r : ℕ) → LocatedAt k p.place x (Some j) → r ≡ 2 ^ j → Packs k p x (Joined (record { place = p.place; bits = p.bits + r }))
   join_is j r o e = record { acts = join_acts k p x j r o e }
 
-  module _ (o : LocatedAt k p.place x Off) where
+  module _ (o : LocatedAt k p.place x None) where
     pub alone_is : (q : Place) (c : ℕ) → p.bits ≤ 0 → c ≡ bytes_of k → Stands k (from (x + c)) q → Packs k p x (Alone (record { place = q; bits = 0 }))
     alone_is q c z e s = record { acts = alone_acts k p q c x o z e s }
 
@@ -277,22 +275,22 @@ module _ (k : Class) (p : Pending) (x : ℕ) where
     flush_is next pos fw = record { acts = flush_acts k p next x o pos fw }
 
 -- ---- small facts
-pub small_on : (k : Class) (j n : ℕ) → n ≡ window_of k → j < n → Small (On j)
+pub small_on : (k : Class) (j n : ℕ) → n ≡ window_of k → j < n → Small (Some j)
 small_on k j n e h = omega (arith, bytes_most k)
 
-pub small_off : Small Off
+pub small_off : Small None
 small_off = tt
 
-pub small_is : {r : Location} {j : ℕ} → Small r → r ≡ On j → j < 63
+pub small_is : {r : Option ℕ} {j : ℕ} → Small r → r ≡ Some j → j < 63
 small_is h e = subst Small e h
 
 pub bit_sum : (b r j : ℕ) → b < 2 ^ 63 → r ≡ 2 ^ j → j < 63 → Fits w64 (b + r)
 bit_sum b r j h e l = let m : suc j ≤ 63 = omega arith in record { fits = omega (arith, pow_mono m) }
 
-pub located_on : (k : Class) (p : Place) (x : ℕ) {r : Location} {j : ℕ} → LocatedAt k p x r → r ≡ On j → LocatedAt k p x (On j)
+pub located_on : (k : Class) (p : Place) (x : ℕ) {r : Option ℕ} {j : ℕ} → LocatedAt k p x r → r ≡ Some j → LocatedAt k p x (Some j)
 located_on k p x f e w s = subst (Located k w x) e (f w s)
 
-pub located_off : (k : Class) (p : Place) (x : ℕ) {r : Location} → LocatedAt k p x r → r ≡ Off → LocatedAt k p x Off
+pub located_off : (k : Class) (p : Place) (x : ℕ) {r : Option ℕ} → LocatedAt k p x r → r ≡ None → LocatedAt k p x None
 located_off k p x f e w s = subst (Located k w x) e (f w s)
 
 pub ruleset locating = (bit_is, off_at, on_at, forward_far, forward_at, bitmap_in, small_on, small_off, rules)

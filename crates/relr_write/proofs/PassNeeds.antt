@@ -3,13 +3,12 @@
 use Rattle.std.proofs.Common.{◌≡◌, ℕ, zero, suc, ◌+◌, ◌-◌, ◌*◌, ◌%◌, ◌^◌, ◌<◌, ◌≤◌, Bool, true, false, cond, ltb, List, [], ◌∷◌, ◌++◌, length, get_or, drop, sym, refl, ap, ◌∙◌, subst, append_assoc, append-nil, mul-le-mul_right, mul-le-mul_left, add-one, arith, length-append, drop_of_length-le, drop-cons, pow_mono, w64, Fits, rules, le-ltb, lt-ltb}
 use Rattle.answer.specs.declared.Refusal.{Refusal}
 use Rattle.answer.specs.declared.Refusal.TheVariants.{Limit}
-use Rattle.answer.specs.declared.Found.TheVariants.{Count}
-use Rattle.answer.specs.declared.Found.TheVariants as found
+use Rattle.std.specs.Prelude.{Result, Ok, Err}
 use Rattle.answer.proofs.Limits.{list_small}
-use Rattle.answer.specs.Outcome.{Outcome, accepted, found_of, list_limit, itself, Gives, filled}
+use Rattle.answer.specs.Outcome.{Outcome, accepted, refused_at, found_of, list_limit, itself, Gives, filled}
 use Rattle.answer.specs.Outcome.Laws.{found_accepted, found_refused, found_count, buffer_more, buffer_long, filled_self, gives_not, gives_short, gives_full}
 use Rattle.answer.specs.declared.Answer.{Answer}
-use Rattle.answer.specs.declared.Found.{Found}
+use Rattle.answer.specs.declared.Refused.{Refused}
 use Rattle.answer.specs.Written.{Written}
 use Rattle.word.specs.declared.Class.{Class}
 use Rattle.word.specs.Class.{bytes_of, bits_of, window_of}
@@ -22,8 +21,6 @@ use Rattle.relr_table.specs.Place.{Place, Nowhere, unset}
 use Rattle.relr_write.specs.declared.packer.Pending.{Pending}
 use Rattle.relr_write.specs.declared.packer.Packed.{Packed}
 use Rattle.relr_write.specs.declared.packer.Packed.TheVariants.{Joined, Flushed, Alone}
-use Rattle.relr_write.specs.declared.Fault.{Fault}
-use Rattle.relr_write.specs.declared.Fault.TheVariants.{Clean, Bad}
 use Rattle.relr_write.specs.Inner.{Near, words_for, Bits, Holding, Adds, Precedes, Acts, Packs, fault_of, end_of, Encodable, Room, Leaves}
 use Rattle.relr_write.specs.declared.Rest.{Rest}
 use Rattle.relr_table.proofs.Steps.{write_join, write_flush, write_end, write_done}
@@ -91,15 +88,15 @@ module _ {k : Class} {l : List ℕ} {i least b words : ℕ} {p : Place} (h : Siz
   pub sizing_small : b < 2 ^ 63
   sizing_small = omega (arith, h.flag)
 
-  module _ {n x : ℕ} {f : Fault} (ne : n ≡ length l) (il : i < n) (xe : x ≡ get_or l i 0) (fe : f ≡ fault_of k x least) where
+  module _ {n x : ℕ} {f : Result (Unit {0}) Refusal} (ne : n ≡ length l) (il : i < n) (xe : x ≡ get_or l i 0) (fe : f ≡ fault_of k x least) where
     left : drop i l ≡ x ∷ drop (i + 1) l
     left = rw (xe, add-one) (drop-cons l i 0 (omega arith))
 
-    pub sizing_bad : {why : Refusal} → f ≡ Bad why → found.Refused why i ≡ found_of (build k l)
+    pub sizing_bad : {why : Refusal} → f ≡ Err why → Err (refused_at why i) ≡ found_of (build k l)
     unfolding build
     sizing_bad e = sym (found_refused (h.clean (accepted (table_bytes k l)) ∙ rw left (checked_bad k x least i (drop (i + 1) l) _ (sym fe ∙ e))))
 
-    module _ (e : f ≡ Clean) where
+    module _ (e : f ≡ Ok tt) where
       ok : Sound k x least
       ok = sound k x least (sym fe ∙ e)
 
@@ -183,7 +180,7 @@ module _ {k : Class} {l : List ℕ} {i least b words : ℕ} {p : Place} (h : Siz
       let f : c ≤ 8 = omega (arith, bytes_most k) in
       record { fits = omega (arith, h.few, mul-le-mul_left (words + b) f, list_small) }
 
-  pub sizing_end : {n c : ℕ} → n ≡ length l → n ≤ i → c ≡ bytes_of k → Count ((words + b) * c) ≡ found_of (build k l)
+  pub sizing_end : {n c : ℕ} → n ≡ length l → n ≤ i → c ≡ bytes_of k → Ok ((words + b) * c) ≡ found_of (build k l)
   unfolding build Legal
   sizing_end ne il ce =
       let d : drop i l ≡ [] = drop_of_length-le l {i = i} (omega arith) in
@@ -449,7 +446,7 @@ pub ruleset leavings = (leaving_long, leaving_double, leaving_full, leaving_done
 
 -- ---- one class by two names
 module _ {k j : Class} (e : k ≡ j) (l : List ℕ) where
-  pub sized_to : {f : Found} → f ≡ found_of (build k l) → f ≡ found_of (build j l)
+  pub sized_to : {f : Result ℕ Refused} → f ≡ found_of (build k l) → f ≡ found_of (build j l)
   sized_to {f} h = subst (λ (i : Class). f ≡ found_of (build i l)) e h
 
   module _ {old : List ℕ} where
@@ -468,15 +465,15 @@ module _ {k j : Class} (e : k ≡ j) (l : List ℕ) where
 pub ruleset names = (class_is, sized_to, encodable_to, encodable_from, leaves_to, leaves_from, rules)
 
 -- ---- a write for a class: f is what the first pass found
-pub measure_over : (k : Class) (l : List ℕ) → list_limit < length l → found.Refused Limit 0 ≡ found_of (encode k l)
+pub measure_over : (k : Class) (l : List ℕ) → list_limit < length l → Err (refused_at Limit 0) ≡ found_of (encode k l)
 measure_over k l h = sym (found_refused (encode_over k l h))
 
-pub measure_in : {k j : Class} (e : k ≡ j) (l : List ℕ) {f : Found} → f ≡ found_of (build j l) → length l ≤ list_limit → f ≡ found_of (encode k l)
+pub measure_in : {k j : Class} (e : k ≡ j) (l : List ℕ) {f : Result ℕ Refused} → f ≡ found_of (build j l) → length l ≤ list_limit → f ≡ found_of (encode k l)
 measure_in {k} {j} e l {f} h s = subst (λ (i : Class). f ≡ found_of (encode i l)) (sym e) (h ∙ ap found_of (sym (encode_in j l s)))
 
 pub ruleset measures = (class_is, measure_over, measure_in, rules)
 
-module _ (k : Class) (l old : List ℕ) {f : Found} (is : f ≡ found_of (encode k l)) {n : ℕ} (e : f ≡ Count n) (fits : n ≤ length old) where
+module _ (k : Class) (l old : List ℕ) {f : Result ℕ Refused} (is : f ≡ found_of (encode k l)) {n : ℕ} (e : f ≡ Ok n) (fits : n ≤ length old) where
   pub write_encodable : Encodable k l old
   unfolding Writable
   write_encodable =

@@ -1,19 +1,17 @@
 -- What the inner functions promise.
 -- Assumes nothing.
 use Rattle.std.specs.Prelude.{◌≡◌, ℕ, suc, ◌+◌, ◌-◌, ◌*◌, ◌/◌, ◌%◌, ◌^◌, ◌<◌, ◌≤◌, Bool, true, false, cond, List, [], ◌∷◌, ◌++◌, length, drop, ◌==◌, nat_lt}
+use Rattle.std.specs.Prelude.{Result, Ok, Err, Option, Some, None}
+use Rattle.answer.specs.declared.Refusal.{Refusal}
 use Rattle.answer.specs.declared.Refusal.TheVariants.{Order, Space, Odd}
 use Rattle.word.specs.declared.Class.{Class}
 use Rattle.word.specs.Class.{bytes_of, window_of}
 use Rattle.word.specs.Word.{bytes_of_words}
 use Rattle.relr_table.specs.Words.{Where, nowhere, from, falls, write, table, Legal}
-use Rattle.relr_write.specs.declared.packer.Location.{Location}
-use Rattle.relr_write.specs.declared.packer.Location.TheVariants.{On, Off}
 use Rattle.relr_write.specs.declared.packer.Packed.{Packed}
 use Rattle.relr_write.specs.declared.packer.Packed.TheVariants.{Joined, Flushed, Alone}
 use Rattle.relr_write.specs.declared.packer.Pending.{Pending}
-use Rattle.relr_write.specs.declared.Fault.{Fault}
 use Rattle.relr_write.specs.declared.Rest.{Rest}
-use Rattle.relr_write.specs.declared.Fault.TheVariants.{Clean, Bad}
 use Rattle.relr_table.specs.Table.{space_of, table_bytes}
 use Rattle.relr_table.specs.Place.{Place, Stands}
 
@@ -27,18 +25,18 @@ falls_at k nowhere x = false
 falls_at k (from v) x = falls (bytes_of k) (window_of k) v x
 
 -- the location of x in the bitmap at *where* w
-abbrev pub Located : Class → Where → ℕ → Location → Type 0
-Located k w x (On j) = (v : ℕ) × (w ≡ from v) × (falls (bytes_of k) (window_of k) v x ≡ true) × (j ≡ (x - v) / bytes_of k)
-Located k w x Off = falls_at k w x ≡ false
+abbrev pub Located : Class → Where → ℕ → Option ℕ → Type 0
+Located k w x (Some j) = (v : ℕ) × (w ≡ from v) × (falls (bytes_of k) (window_of k) v x ≡ true) × (j ≡ (x - v) / bytes_of k)
+Located k w x None = falls_at k w x ≡ false
 
 -- the same at a place
-abbrev pub LocatedAt : Class → Place → ℕ → Location → Type 0
+abbrev pub LocatedAt : Class → Place → ℕ → Option ℕ → Type 0
 LocatedAt k p x r = (w : Where) → Stands k w p → Located k w x r
 
 -- a location is an index below 63
-abbrev pub Small : Location → Type 0
-Small (On j) = j < 63
-Small Off = Unit {0}
+abbrev pub Small : Option ℕ → Type 0
+Small (Some j) = j < 63
+Small None = Unit {0}
 
 -- where the bitmap after the one at a place starts
 abbrev pub ForwardFrom : Class → Place → Place → Type 0
@@ -85,8 +83,8 @@ pub record Packs (k : Class) (p : Pending) (x : ℕ) (r : Packed) : Type 0 where
   pub acts : (w : Where) (lo : ℕ) → Holding k lo w p.place p.bits → lo ≤ x → Acts k lo w p x r
 
 -- what is wrong with an offset of which `least` is the least allowed, as `checked` looks for it
-abbrev pub fault_of : Class → ℕ → ℕ → Fault
-fault_of k x least = cond (x % 2 == 1) (Bad Odd) (cond (nat_lt (space_of k) (x + bytes_of k)) (Bad Space) (cond (nat_lt x least) (Bad Order) Clean))
+abbrev pub fault_of : Class → ℕ → ℕ → Result (Unit {0}) Refusal
+fault_of k x least = cond (x % 2 == 1) (Err Odd) (cond (nat_lt (space_of k) (x + bytes_of k)) (Err Space) (cond (nat_lt x least) (Err Order) (Ok tt)))
 
 -- the words of a bitmap that is pending at the end
 abbrev pub end_of : ℕ → List ℕ

@@ -12,36 +12,30 @@ ghost use Rattle.relr_table.specs.Table.{build, table_bytes, encode};
 ghost use Rattle.relr_write.specs.Inner.{fault_of, Encodable, Room, Leaves};
 
 use crate::packer::{Packed, Pending};
-use answer::{Answer, Found, Refusal};
+use answer::{Answer, Refusal, Refused};
 use relr_table::place;
 use word::{ByteOrder, Class, Size};
 
 mod packer;
 
 // What is wrong with an offset that may be no less than `least`.
-#[derive(Clone, Copy)]
-pub enum Fault {
-    Clean,
-    Bad(Refusal),
-}
-
-fn faulty(k: Class, x: u64, least: u64) -> Fault
+fn faulty(k: Class, x: u64, least: u64) -> Result<(), Refusal>
     ensures { result ≡ fault_of k x least }
 {
     if x % 2 == 1 {
-        return Fault::Bad(Refusal::Odd);
+        return Err(Refusal::Odd);
     }
     if k.last() < x {
-        return Fault::Bad(Refusal::Space);
+        return Err(Refusal::Space);
     }
     if x < least {
-        return Fault::Bad(Refusal::Order);
+        return Err(Refusal::Order);
     }
-    Fault::Clean
+    Ok(())
 }
 
 // The first pass: how many bytes the table takes, or the first bad offset. Of a pending bitmap it keeps one bit, which is as many words.
-fn size(k: Class, offsets: &[u64]) -> Found
+fn size(k: Class, offsets: &[u64]) -> Result<u64, Refused>
     requires { length offsets.now ≤ list_limit }
     ensures { result ≡ found_of (build k offsets.now) }
 {
@@ -53,61 +47,59 @@ fn size(k: Class, offsets: &[u64]) -> Found
     let mut words: u64 = 0;
     while i < n {
         let x = offsets[i];
-        let found = faulty(k, x, least);
-        match found {
-            Fault::Bad(why) => {
-                return Found::Refused(why, i as u64);
+        if let Err(why) = faulty(k, x, least) {
+            return Err(Refused {
+                why,
+                place: i as u64,
+            });
+        }
+        match packer::pack(k, Pending { place, bits }, x) {
+            Packed::Joined(_) => {
+                bits = 1;
+                least = x + 1;
+                i += 1;
             }
-            Fault::Clean => {
-                let packed = packer::pack(k, Pending { place, bits }, x);
-                match packed {
-                    Packed::Joined(_) => {
-                        bits = 1;
-                        least = x + 1;
-                        i += 1;
-                    }
-                    Packed::Flushed(_, p) => {
-                        place = p.place;
-                        bits = 0;
-                        words += 1;
-                    }
-                    Packed::Alone(p) => {
-                        place = p.place;
-                        words += 1;
-                        least = x + 1;
-                        i += 1;
-                    }
-                }
+            Packed::Flushed(_, p) => {
+                place = p.place;
+                bits = 0;
+                words += 1;
+            }
+            Packed::Alone(p) => {
+                place = p.place;
+                words += 1;
+                least = x + 1;
+                i += 1;
             }
         }
     }
-    Found::Count((words + bits) * (k.bytes() as u64))
+    Ok((words + bits) * (k.bytes() as u64))
 }
 
-// The same by a flag for the size, so that the compiler makes a loop for each.
-fn size_by(wide: bool, order: ByteOrder, offsets: &[u64]) -> Found
+// The same by the size as a constant, so that the compiler makes a loop for each.
+fn size_by<const WIDE: bool>(order: ByteOrder, offsets: &[u64]) -> Result<u64, Refused>
     requires { length offsets.now ≤ list_limit }
-    ensures { result ≡ found_of (build (class_in (flagged_size wide) order) offsets.now) }
+    ensures { result ≡ found_of (build (class_in (flagged_size WIDE) order) offsets.now) }
 {
     let k = Class {
-        size: place::chosen_size(wide),
+        size: place::chosen_size(WIDE),
         order,
     };
     size(k, offsets)
 }
 
 // How many bytes the table of any list takes, or the refusal.
-fn measure(k: Class, offsets: &[u64]) -> Found
+fn measure(k: Class, offsets: &[u64]) -> Result<u64, Refused>
     ensures { result ≡ found_of (encode k offsets.now) }
 {
     if answer::LIST_LIMIT < offsets.len() {
-        return Found::Refused(Refusal::Limit, 0);
+        return Err(Refused {
+            why: Refusal::Limit,
+            place: 0,
+        });
     }
-    let size = k.size;
-    let order = k.order;
-    match size {
-        Size::Four => size_by(false, order, offsets),
-        Size::Eight => size_by(true, order, offsets),
+    match k.size {
+        Size::Four => size_by::<false>(k.order, offsets),
+        Size::Eight => size_by::<true>(k.order, offsets),
     }
 }
 
@@ -141,8 +133,7 @@ fn put(k: Class, offsets: &[u64], table: &mut [u8]) -> Rest
     let mut at: usize = 0;
     while i < n {
         let x = offsets[i];
-        let packed = packer::pack(k, pending, x);
-        match packed {
+        match packer::pack(k, pending, x) {
             Packed::Joined(p) => {
                 pending = p;
                 i += 1;
@@ -164,29 +155,23 @@ fn put(k: Class, offsets: &[u64], table: &mut [u8]) -> Rest
     }
 }
 
-// The same by flags for the class and for each class.
-fn put_by(wide: bool, big: bool, offsets: &[u64], table: &mut [u8]) -> Rest
-    requires { Encodable (flagged wide big) offsets.now table.old }
-    ensures { Leaves (flagged wide big) offsets.now table.old result table.new }
+// The same by the class as constants, and for each class.
+fn put_by<const WIDE: bool, const BIG: bool>(offsets: &[u64], table: &mut [u8]) -> Rest
+    requires { Encodable (flagged WIDE BIG) offsets.now table.old }
+    ensures { Leaves (flagged WIDE BIG) offsets.now table.old result table.new }
 {
-    put(place::chosen(wide, big), offsets, table)
+    put(place::chosen(WIDE, BIG), offsets, table)
 }
 
 fn put_all(k: Class, offsets: &[u64], table: &mut [u8]) -> Rest
     requires { Encodable k offsets.now table.old }
     ensures { Leaves k offsets.now table.old result table.new }
 {
-    let size = k.size;
-    let order = k.order;
-    match order {
-        ByteOrder::Little => match size {
-            Size::Four => put_by(false, false, offsets, table),
-            Size::Eight => put_by(true, false, offsets, table),
-        },
-        ByteOrder::Big => match size {
-            Size::Four => put_by(false, true, offsets, table),
-            Size::Eight => put_by(true, true, offsets, table),
-        },
+    match (k.size, k.order) {
+        (Size::Four, ByteOrder::Little) => put_by::<false, false>(offsets, table),
+        (Size::Four, ByteOrder::Big) => put_by::<false, true>(offsets, table),
+        (Size::Eight, ByteOrder::Little) => put_by::<true, false>(offsets, table),
+        (Size::Eight, ByteOrder::Big) => put_by::<true, true>(offsets, table),
     }
 }
 
@@ -205,10 +190,9 @@ fn fill(k: Class, offsets: &[u64], table: &mut [u8])
 pub fn write_class(k: Class, offsets: &[u64], table: &mut [u8]) -> Answer
     ensures { WritesIn k offsets.now table.old result table.new }
 {
-    let found = measure(k, offsets);
-    match found {
-        Found::Refused(why, at) => answer::refuse(why, at),
-        Found::Count(need) => {
+    match measure(k, offsets) {
+        Err(refused) => refused.into(),
+        Ok(need) => {
             if (table.len() as u64) < need {
                 return answer::short_of(need);
             }

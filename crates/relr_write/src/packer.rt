@@ -14,13 +14,6 @@ pub struct Pending {
     pub bits: u64,
 }
 
-// The location of an offset in a bitmap, or none.
-#[derive(Clone, Copy)]
-pub enum Location {
-    On(u64),
-    Off,
-}
-
 // What the next offset does: it joins the bitmap that is pending or would start next, has the pending bitmap written and waits for the
 // next one, or is written itself.
 #[derive(Clone, Copy)]
@@ -37,17 +30,17 @@ fn bit(j: u64) -> u64
     1u64 << j
 }
 
-// Where x falls in the bitmap that starts at a place. Nowhere and beyond are odd, so that x falls nowhere from there on.
-fn locate(k: Class, place: u64, x: u64) -> Location
+// The location of x in the bitmap that starts at a place, or none. Nowhere and beyond are odd, so that x falls nowhere from there on.
+fn locate(k: Class, place: u64, x: u64) -> Option<u64>
     requires { (x + bytes_of k ≤ space_of k) × (x % 2 ≡ 0) × Near place x }
     ensures { LocatedAt k place x result × Small result }
 {
     let d = std::num::wrapping_sub_u64(x, place);
     let j = k.in_words(d);
     if j < k.window() as u64 {
-        return Location::On(j);
+        return Some(j);
     }
-    Location::Off
+    None
 }
 
 // Where the bitmap after the one at a place starts.
@@ -66,13 +59,12 @@ pub fn pack(k: Class, p: Pending, x: u64) -> Packed
     ensures { Packs k p x result }
 {
     let place = p.place;
-    let location = locate(k, place, x);
-    match location {
-        Location::On(j) => Packed::Joined(Pending {
+    match locate(k, place, x) {
+        Some(j) => Packed::Joined(Pending {
             place,
             bits: p.bits + bit(j),
         }),
-        Location::Off => {
+        None => {
             if 0 < p.bits {
                 let full = 2 * p.bits + 1;
                 return Packed::Flushed(

@@ -6,6 +6,3 @@ put_word-requires c = search leavings
 
 pub returns-then-rest-gt0 : goal.returns-then-rest-gt0
 returns-then-rest-gt0 c = search leavings
-
-pub returns-else-rest-gt0 : goal.returns-else-rest-gt0
-returns-else-rest-gt0 c = search leavings

@@ -1,6 +1,5 @@
 use Rattle.answer.specs.Outcome.{list_limit}
 use Rattle.relr_write.proofs.PassNeeds.{measures}
-use Rattle.std.proofs.Common.{rules}
 use Rattle.relr_write.proofs.measure.Goals as goal
 
 pub returns-then-offsets-gt-LIST_LIMIT : goal.returns-then-offsets-gt-LIST_LIMIT
@@ -9,11 +8,11 @@ returns-then-offsets-gt-LIST_LIMIT c = search measures
 
 pub size_by-requires : goal.size_by-requires
 unfolding list_limit
-size_by-requires c = search rules
+size_by-requires c = search measures
 
 pub size_by-requires-in-Eight : goal.size_by-requires-in-Eight
 unfolding list_limit
-size_by-requires-in-Eight c = search rules
+size_by-requires-in-Eight c = search measures
 
 pub returns-in-Four : goal.returns-in-Four
 unfolding list_limit

@@ -7,8 +7,8 @@ returns-then-table-need c = search writes
 pub fill-requires : goal.fill-requires
 fill-requires c = search writes
 
-pub returns-in-Refused : goal.returns-in-Refused
-returns-in-Refused c = search writes
+pub returns-in-Err : goal.returns-in-Err
+returns-in-Err c = search writes
 
 pub returns-else-table-need : goal.returns-else-table-need
 returns-else-table-need c = search writes
