@@ -9,7 +9,7 @@ use Rattle.word.specs.Class.Laws.{bytes_least, bytes_most, by_bytes}
 use Rattle.relr_table.specs.Words.{Where, nowhere, from, falls, bit, word, write, table}
 use Rattle.relr_table.specs.Table.{space_of, checked}
 use Rattle.relr_table.specs.Place.{Place, Beyond, Stands, inside, unset, past}
-use Rattle.std.specs.Prelude.{Result, Ok, Err, Option, Some, None}
+use Rattle.std.specs.Prelude.{Ok, Err, Option, Some, None}
 use Rattle.relr_write.specs.declared.packer.Pending.{Pending}
 use Rattle.relr_write.specs.declared.packer.Packed.TheVariants.{Joined, Flushed, Alone}
 use Rattle.relr_write.specs.Inner.{Near, falls_at, Located, LocatedAt, Small, ForwardFrom, words_for, Bits, Holding, Adds, Precedes, Acts, Packs, fault_of}
