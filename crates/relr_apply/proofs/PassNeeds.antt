@@ -8,9 +8,9 @@ use borrow.Author.Tests.{lt-leb}
 use Rattle.answer.specs.declared.Refusal.{Refusal}
 use Rattle.answer.specs.declared.Refusal.TheVariants as why
 use Rattle.answer.specs.declared.Answer.{Answer}
-use Rattle.answer.specs.declared.Found.{Found}
-use Rattle.answer.specs.declared.Found.TheVariants.{Count}
-use Rattle.answer.specs.declared.Found.TheVariants as found
+use Rattle.answer.specs.declared.Refused.{Refused}
+use Rattle.std.specs.Prelude.{Result, Ok, Err}
+use Rattle.relr_apply.specs.declared.Pace.{Pace}
 use Rattle.answer.specs.Outcome.{Outcome, accepted, refused, found_of, success, refusal}
 use Rattle.answer.specs.Outcome.Laws.{Counted, found_count, not_found, answer_all, answer_none}
 use Rattle.word.specs.declared.Class.{Class}
@@ -205,20 +205,20 @@ module _ (k : Class) (size : ℕ) {d : ℕ} (de : d ≡ window_of k * bytes_of k
 pub ruleset fittings = (windows_none, windows_some, windows_fit, rules)
 
 -- which it is
-module _ {k : Class} {n base : ℕ} {strips : List ℕ} {all room : ℕ} {image : List ℕ} {first set : ℕ} (s : Sized k n base strips all room image first set) where
+module _ {k : Class} {base : ℕ} {pace : Pace} {image : List ℕ} {first set : ℕ} (s : Sized k base pace image first set) where
   pub bitmap_marks : Patchable k image first set
   bitmap_marks = s.patchable
 
-  pub bitmap_spacious : first < room → Spacious k n base strips image first
+  pub bitmap_spacious : first < pace.room → Spacious k pace.window base pace.strips.now image first
   bitmap_spacious l =
       record {
         locations = s.paced.locations;
         addends = s.paced.addends;
-        room = leb-true (first + window_of k * bytes_of k) (length image) (sym (s.paced.windows.are first) ∙ lt-ltb first room l);
+        room = leb-true (first + window_of k * bytes_of k) (length image) (sym (s.paced.windows.are first) ∙ lt-ltb first pace.room l);
       }
 
-  module _ (e : set ≡ all) where
-    pub bitmap_run : Runs k n image first
+  module _ (e : set ≡ pace.all) where
+    pub bitmap_run : Runs k pace.window image first
     bitmap_run = record { locations = s.paced.locations; patchable = subst (λ (b : ℕ). Patchable k image first b) (e ∙ s.paced.bits) s.patchable }
 
     pub bitmap_ran : {new : List ℕ} → new ≡ patched k base (spots_of k (full k) first) image → new ≡ patched k base (spots_of k set first) image
@@ -242,7 +242,7 @@ pub record Working (k : Class) (s old : List ℕ) (base start at behind : ℕ) (
   pub few : length old * 1 < 2 ^ 63
   pub held : image ≡ patched k base (indexes start list) old
 
-module _ {k : Class} {n base : ℕ} {strips : List ℕ} {all room : ℕ} {s old : List ℕ} {start : ℕ} (t : Aimed k n base strips all room s start old) where
+module _ {k : Class} {base : ℕ} {pace : Pace} {s old : List ℕ} {start : ℕ} (t : Aimed k base pace s start old) where
   pub working_begin : length old * 1 < 2 ^ 63 → Working k s old base start 0 0 old
   unfolding patched indexes
   working_begin h = record { list = []; following = following_begin k s _ t.targeted.good.whole; few = h; held = refl }
@@ -297,7 +297,7 @@ module _ {k : Class} {n base : ℕ} {strips : List ℕ} {all room : ℕ} {s old 
         spots : (spots_of k (x / 2) f ≡ indexes start (marks_of k (x / 2) a)) × All (λ y. y % 2 ^ 64 + bytes_of k ≤ length image) (marks_of k (x / 2) f)
         spots = spots_are (bytes_of k) start (length image) fewer (window_of k) (x / 2) f a (rw (fe, ce) (index_of behind start (bytes_of k))) (in_image word)
 
-        pub working_marks : Sized k n base strips all room image f (x / 2)
+        pub working_marks : Sized k base pace image f (x / 2)
         working_marks = record { patchable = record { in_window = word.in_window; in_image = spots.1 }; paced = rw working_long t.paced }
 
         pub working_more : {new : List ℕ} {d b : ℕ} → d ≡ window_of k * bytes_of k → b ≡ (behind + d) % 2 ^ 64 → new ≡ patched k base (spots_of k (x / 2) f) image
@@ -313,15 +313,14 @@ pub ruleset workings = (working_begin, working_long, working_end, working_low, w
 
 -- ---- one class by two names
 module _ {k j : Class} (e : k ≡ j) (s old : List ℕ) (start : ℕ) where
-  -- the numbers are said of the class that flags name, and the table's of the class that was handed in
-  pub aimed_to : {base : ℕ} {strips : List ℕ} {all room : ℕ} → Filled k base 8 strips → all ≡ full k → Windows k (length old) room → Targeted k s start old
-      → Aimed j (window_of j) base strips all room s start old
-  aimed_to {base} {strips} {all} {room} r ae w h =
-      subst (λ (i : Class). Aimed i (window_of i) base strips all room s start old) e
-      (record { targeted = h; paced = record { locations = refl; addends = r; bits = ae; windows = w } })
+  pub aimed_to : {base : ℕ} {pace : Pace} → pace.window ≡ window_of k → Filled k base 8 pace.strips.now → pace.all ≡ full k → Windows k (length old) pace.room → Targeted k s start old
+      → Aimed j base pace s start old
+  aimed_to {base} {pace} ne r ae w h =
+      subst (λ (i : Class). Aimed i base pace s start old) e
+      (record { targeted = h; paced = record { locations = ne; addends = r; bits = ae; windows = w } })
 
-  pub aimed_from : {n base : ℕ} {strips : List ℕ} {all room : ℕ} → n ≡ window_of k → Aimed j (window_of j) base strips all room s start old → Aimed k n base strips all room s start old
-  aimed_from {n} {base} {strips} {all} {room} ne h = rw ne (subst (λ (i : Class). Aimed i (window_of i) base strips all room s start old) (sym e) h)
+  pub aimed_from : {base : ℕ} {pace : Pace} → Aimed j base pace s start old → Aimed k base pace s start old
+  aimed_from {base} {pace} h = subst (λ (i : Class). Aimed i base pace s start old) (sym e) h
 
   module _ (base : ℕ) {new : List ℕ} where
     pub patched_to : Patched k s base start old new → Patched j s base start old new
@@ -399,40 +398,41 @@ module _ (k : Class) (s : List ℕ) (base start : ℕ) (old : List ℕ) where
   unfolding changed
   changed_accepted e = rw e
 
-  pub apply_over : {b : Bool} {a : Answer} → b ≡ above k base → b ≡ true → a ≡ refusal why.Base 0 → AppliesIn k s base start old a old
-  apply_over e f q =
-      let t = targets_over k s base start (length old) (sym e ∙ f) in
-      record { answer = q ∙ sym (answer_none t); image = changed_refused t }
-
-  module _ {b : Bool} (n : ℕ) {f : Found} (be : b ≡ above k base) (bf : b ≡ false) (h : f ≡ found_of (contained (between start n) (decode k s))) (ne : End k start (length old) n) where
-    is : f ≡ found_of aims
-    is =
-        h
-        ∙ ap found_of
-        (contained_space k s (between start n) (inside k start (length old)) ne ∙ sym (targets_in k s base start (length old) (sym be ∙ bf)))
-
-    pub apply_refused : {a : Answer} {w : Refusal} {p : ℕ} → f ≡ found.Refused w p → a ≡ refusal w p → AppliesIn k s base start old a old
-    apply_refused e q =
-        let t = not_found aims (sym is ∙ e) in
+  module _ {m : ℕ} (me : m + 1 ≡ 2 ^ bits_of k) (small : base < 2 ^ 64) where
+    pub apply_over : {a : Answer} → m < base → a ≡ refusal why.Base 0 → AppliesIn k s base start old a old
+    apply_over l q =
+        let t = targets_over k s base start (length old) (sym (over_is k base m me small) ∙ lt-ltb m base l) in
         record { answer = q ∙ sym (answer_none t); image = changed_refused t }
 
-    module _ {m : ℕ} (e : f ≡ Count m) where
-      has : Counted aims m
-      has = found_count aims (sym is ∙ e)
+    module _ (n : ℕ) {f : Result ℕ Refused} (l : base ≤ m) (h : f ≡ found_of (contained (between start n) (decode k s))) (ne : End k start (length old) n) where
+      is : f ≡ found_of aims
+      is =
+          h
+          ∙ ap found_of
+          (contained_space k s (between start n) (inside k start (length old)) ne ∙ sym (targets_in k s base start (length old) (sym (over_is k base m me small) ∙ le-ltb m base l)))
 
-      both : (decode k s ≡ accepted has.list) × All (Inside k start (length old)) has.list
-      both = targets_accepted k s base start (length old) has.is
+      pub apply_refused : {a : Answer} {r : Refused} → f ≡ Err r → a ≡ refusal r.why r.place → AppliesIn k s base start old a old
+      apply_refused e q =
+          let t = not_found aims (sym is ∙ e) in
+          record { answer = q ∙ sym (answer_none t); image = changed_refused t }
 
-      pub apply_targeted : Targeted k s start old
-      apply_targeted =
-          let d = decode_good k s has.list both.0 in
-          record { good = record { whole = d.0; list = has.list; is = d.1 }; in_image = both.1 }
+      module _ {o : ℕ} (e : f ≡ Ok o) where
+        has : Counted aims o
+        has = found_count aims (sym is ∙ e)
 
-      pub apply_done : {a : Answer} {new : List ℕ} → Patched k s base start old new → a ≡ success m → AppliesIn k s base start old a new
-      apply_done p q =
-          record {
-            answer = q ∙ sym (answer_all has);
-            image = p has.list (decode_good k s has.list both.0).1 ∙ sym (changed_accepted has.is);
-          }
+        both : (decode k s ≡ accepted has.list) × All (Inside k start (length old)) has.list
+        both = targets_accepted k s base start (length old) has.is
 
-pub ruleset applies = (over_is, apply_over, apply_refused, apply_targeted, apply_done, rules)
+        pub apply_targeted : Targeted k s start old
+        apply_targeted =
+            let d = decode_good k s has.list both.0 in
+            record { good = record { whole = d.0; list = has.list; is = d.1 }; in_image = both.1 }
+
+        pub apply_done : {a : Answer} {new : List ℕ} → Patched k s base start old new → a ≡ success o → AppliesIn k s base start old a new
+        apply_done p q =
+            record {
+              answer = q ∙ sym (answer_all has);
+              image = p has.list (decode_good k s has.list both.0).1 ∙ sym (changed_accepted has.is);
+            }
+
+pub ruleset applies = (apply_over, apply_refused, apply_targeted, apply_done, rules)

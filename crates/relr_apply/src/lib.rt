@@ -2,13 +2,13 @@
 #![tactic(auto)]
 
 ghost use Rattle.std.specs.Prelude.{◌≡◌, ◌+◌, ◌/◌, ◌≤◌, length};
-ghost use Rattle.word.specs.Class.{bytes_of, window_of};
-ghost use Rattle.relr_table.specs.Table.{above, added, patched};
+ghost use Rattle.word.specs.Class.{bytes_of};
+ghost use Rattle.relr_table.specs.Table.{added, patched};
 ghost use Rattle.relr_table.specs.Contract.{AppliesIn};
 ghost use Rattle.relr_table.specs.Inner.{flagged, full};
 ghost use Rattle.relr_apply.specs.Inner.{spots_of, Patchable, Runs, low_of, Strips, Summed, Strip, StripAdded, Spacious, Windows, Sized, Targeted, Aimed, Patched, End};
 
-use answer::{Answer, Found, Refusal};
+use answer::{Answer, Refusal};
 use relr_table::place;
 use word::{ByteOrder, Class, Size};
 
@@ -40,11 +40,9 @@ fn patch_run(k: Class, n: u64, image: &mut [u8], base: u64, first: u64)
     requires { Runs k n image.old first }
     ensures { image.new ≡ patched k base (spots_of k (full k) first) image.old }
 {
-    let mut j: u64 = 0;
-    while j < n {
+    for j in 0..n {
         let x = std::num::wrapping_add_u64(first, j * (k.bytes() as u64));
         add_at(k, &mut *image, x as usize, base);
-        j += 1;
     }
 }
 
@@ -52,9 +50,8 @@ fn patch_run(k: Class, n: u64, image: &mut [u8], base: u64, first: u64)
 fn low(k: Class) -> Class
     ensures { result ≡ low_of k }
 {
-    let size = k.size;
     Class {
-        size: size,
+        size: k.size,
         order: ByteOrder::Little,
     }
 }
@@ -65,11 +62,9 @@ fn fill_strips(k: Class, strips: &mut [u8], base: u64)
     ensures { Strips k base strips.new }
 {
     let c = k.bytes() as usize;
-    let mut e: u64 = 0;
-    while e < 8 {
+    for e in 0..8u64 {
         let addend = word::add(k, 0, base * ((e / 2 >> (e % 2)) % 2));
         word::store(low(k), &mut *strips, e as usize * c, addend);
-        e += 1;
     }
 }
 
@@ -99,10 +94,8 @@ fn add_strip(
 {
     let c = k.bytes() as usize;
     let y = bits as usize * (2 * c);
-    let mut j: usize = 0;
-    while j < bytes {
+    for j in (0..bytes).step_by(c) {
         add_entry(k, &mut *image, x + j, strips, y + j);
-        j += c;
     }
 }
 
@@ -122,16 +115,11 @@ fn patch_window(
     let c = k.bytes() as usize;
     let mut bits = set;
     let mut x = first as usize;
-    let mut j: u64 = 0;
-    while j < window {
-        let mut n = 2 * c;
-        if window - j < 2 {
-            n = c;
-        }
+    for j in (0..window).step_by(2) {
+        let n = if window - j < 2 { c } else { 2 * c };
         add_strip(k, &mut *image, x, strips, base, bits % 4, n);
         x += 2 * c;
-        bits = bits / 4;
-        j += 2;
+        bits /= 4;
     }
 }
 
@@ -147,31 +135,31 @@ fn windows(k: Class, size: usize) -> u64
     n - stride + 1
 }
 
-// A bitmap, whichever way is fastest. (If two neighbours of its upper bits are set, which makes a number larger than `dense`, most often many bits
-// are; full bitmaps are among those.)
-fn patch_bitmap(
-    k: Class,
+// What the second pass goes by: the locations of a bitmap, the strips, the number above which bits are dense, the bits that are all set, and how many
+// indexes of the image a whole window fits at.
+#[derive(Clone, Copy)]
+struct Pace<'a> {
     window: u64,
-    strips: &[u8],
+    strips: &'a [u8],
     dense: u64,
     all: u64,
     room: u64,
-    image: &mut [u8],
-    base: u64,
-    first: u64,
-    x: u64,
-)
-    requires { Sized k window base strips.now all room image.old first (x / 2) }
+}
+
+// A bitmap, whichever way is fastest. (If two neighbours of its upper bits are set, which makes a number larger than `dense`, most often many bits
+// are; full bitmaps are among those.)
+fn patch_bitmap(k: Class, pace: Pace, image: &mut [u8], base: u64, first: u64, x: u64)
+    requires { Sized k base pace image.old first (x / 2) }
     ensures { image.new ≡ patched k base (spots_of k (x / 2) first) image.old }
 {
     let set = x / 2;
-    if dense < x & set {
-        if set == all {
-            patch_run(k, window, image, base, first);
+    if pace.dense < x & set {
+        if set == pace.all {
+            patch_run(k, pace.window, image, base, first);
             return;
         }
-        if first < room {
-            patch_window(k, window, strips, image, base, first, set);
+        if first < pace.room {
+            patch_window(k, pace.window, pace.strips, image, base, first, set);
             return;
         }
     }
@@ -180,19 +168,8 @@ fn patch_bitmap(
 
 // The second pass, over a table that the first accepted, whose words all lie inside the image. The index of the word before *where* is kept, and
 // wraps: beyond the space no bitmap has a bit set. (What it goes by is handed in: so the compiler puts it in line for each class.)
-fn patch(
-    k: Class,
-    window: u64,
-    strips: &[u8],
-    dense: u64,
-    all: u64,
-    room: u64,
-    s: &[u8],
-    base: u64,
-    start: u64,
-    image: &mut [u8],
-)
-    requires { Aimed k window base strips.now all room s.now start image.old }
+fn patch(k: Class, pace: Pace, s: &[u8], base: u64, start: u64, image: &mut [u8])
+    requires { Aimed k base pace s.now start image.old }
     ensures { Patched k s.now base start image.old image.new }
 {
     let c = k.bytes() as usize;
@@ -207,52 +184,26 @@ fn patch(
             add_at(k, &mut *image, behind as usize, base);
         } else {
             let first = std::num::wrapping_add_u64(behind, c as u64);
-            patch_bitmap(
-                k,
-                window,
-                strips,
-                dense,
-                all,
-                room,
-                &mut *image,
-                base,
-                first,
-                x,
-            );
+            patch_bitmap(k, pace, &mut *image, base, first, x);
             behind = std::num::wrapping_add_u64(behind, stride);
         }
     }
 }
 
-// The same by flags for the class, so that the compiler makes a loop for each.
-fn patch_by(
-    wide: bool,
-    big: bool,
-    strips: &[u8],
-    dense: u64,
-    all: u64,
-    room: u64,
+// The same by the class as constants, so that the compiler makes a loop for each. (So it also knows the window there.)
+fn patch_by<const WIDE: bool, const BIG: bool>(
+    pace: Pace,
     s: &[u8],
     base: u64,
     start: u64,
     image: &mut [u8],
 )
-    requires { Aimed (flagged wide big) (window_of (flagged wide big)) base strips.now all room s.now start image.old }
-    ensures { Patched (flagged wide big) s.now base start image.old image.new }
+    requires { Aimed (flagged WIDE BIG) base pace s.now start image.old }
+    ensures { Patched (flagged WIDE BIG) s.now base start image.old image.new }
 {
-    let k = place::chosen(wide, big);
-    patch(
-        k,
-        k.window() as u64,
-        strips,
-        dense,
-        all,
-        room,
-        s,
-        base,
-        start,
-        image,
-    );
+    let k = place::chosen(WIDE, BIG);
+    let window = k.window() as u64;
+    patch(k, Pace { window, ..pace }, s, base, start, image);
 }
 
 fn patch_class(k: Class, s: &[u8], base: u64, start: u64, image: &mut [u8])
@@ -261,26 +212,18 @@ fn patch_class(k: Class, s: &[u8], base: u64, start: u64, image: &mut [u8])
 {
     let mut strips: [u8; 64] = [0; 64];
     fill_strips(k, &mut strips, base);
-    let dense = k.largest() / 65536;
-    let all = place::full_bits(k);
-    let room = windows(k, image.len());
-    let size = k.size;
-    let order = k.order;
-    match order {
-        ByteOrder::Little => match size {
-            Size::Four => patch_by(
-                false, false, &strips, dense, all, room, s, base, start, image,
-            ),
-            Size::Eight => patch_by(
-                true, false, &strips, dense, all, room, s, base, start, image,
-            ),
-        },
-        ByteOrder::Big => match size {
-            Size::Four => patch_by(
-                false, true, &strips, dense, all, room, s, base, start, image,
-            ),
-            Size::Eight => patch_by(true, true, &strips, dense, all, room, s, base, start, image),
-        },
+    let pace = Pace {
+        window: k.window() as u64,
+        strips: &strips,
+        dense: k.largest() / 65536,
+        all: place::full_bits(k),
+        room: windows(k, image.len()),
+    };
+    match (k.size, k.order) {
+        (Size::Four, ByteOrder::Little) => patch_by::<false, false>(pace, s, base, start, image),
+        (Size::Four, ByteOrder::Big) => patch_by::<false, true>(pace, s, base, start, image),
+        (Size::Eight, ByteOrder::Little) => patch_by::<true, false>(pace, s, base, start, image),
+        (Size::Eight, ByteOrder::Big) => patch_by::<true, true>(pace, s, base, start, image),
     }
 }
 
@@ -304,24 +247,16 @@ fn end(k: Class, start: u64, size: usize) -> u64
     start + most + 1
 }
 
-// Whether a base is too large for the class.
-fn over(k: Class, base: u64) -> bool
-    ensures { result ≡ above k base }
-{
-    k.largest() < base
-}
-
 // Applying, for a class.
 pub fn apply_class(k: Class, table: &[u8], base: u64, start: u64, image: &mut [u8]) -> Answer
     ensures { AppliesIn k table.now base start image.old result image.new }
 {
-    if over(k, base) {
+    if k.largest() < base {
         return answer::refuse(Refusal::Base, 0);
     }
-    let found = relr_walk::find(k, table, start, end(k, start, image.len()));
-    match found {
-        Found::Refused(why, at) => answer::refuse(why, at),
-        Found::Count(count) => {
+    match relr_walk::find(k, table, start, end(k, start, image.len())) {
+        Err(refused) => refused.into(),
+        Ok(count) => {
             patch_class(k, table, base, start, image);
             answer::accept(count)
         }

@@ -1,23 +1,8 @@
 use Rattle.relr_apply.proofs.PassNeeds.{workings, working_one, working_more, working_end}
 use Rattle.relr_apply.proofs.patch.Goals as goal
 
-pub bytes-c-requires : goal.bytes-c-requires
-bytes-c-requires c = search workings
-
-pub overflow_cast-c : goal.overflow_cast-c
-overflow_cast-c c = search workings
-
-pub stride-stride-requires : goal.stride-stride-requires
-stride-stride-requires c = search workings
-
 pub loop-at-init : goal.loop-at-init
 loop-at-init c = search workings
-
-pub load-x-requires : goal.load-x-requires
-load-x-requires c = search workings
-
-pub overflow_add-at : goal.overflow_add-at
-overflow_add-at c = search workings
 
 pub overflow_sub-behind : goal.overflow_sub-behind
 overflow_sub-behind c = search workings
@@ -25,32 +10,17 @@ overflow_sub-behind c = search workings
 pub add_at-requires : goal.add_at-requires
 add_at-requires c = search workings
 
-pub loop-at-smaller-then-x-eq0 : goal.loop-at-smaller-then-x-eq0
-loop-at-smaller-then-x-eq0 c = search workings
-
 pub loop-at-preserved-then-x-eq0 : goal.loop-at-preserved-then-x-eq0
-loop-at-preserved-then-x-eq0 c =
+loop-at-preserved-then-x-eq0 c = 
     working_one c.requires c.loop-at.invariant c.loop-at-test.true c.load-x.ensures.0 c.if-x-eq0.true c.bytes-c.ensures c.add_at.ensures
-
-pub wrapping_add_u64-first-requires : goal.wrapping_add_u64-first-requires
-wrapping_add_u64-first-requires c = search workings
 
 pub patch_bitmap-requires : goal.patch_bitmap-requires
 patch_bitmap-requires c = search workings
 
-pub wrapping_add_u64-behind-requires : goal.wrapping_add_u64-behind-requires
-wrapping_add_u64-behind-requires c = search workings
-
-pub loop-at-smaller : goal.loop-at-smaller
-loop-at-smaller c = search workings
-
 pub loop-at-preserved : goal.loop-at-preserved
-loop-at-preserved c =
+loop-at-preserved c = 
     working_more c.requires c.loop-at.invariant c.loop-at-test.true c.load-x.ensures.0 c.load-x.ensures.1 c.if-x-eq0.false c.bytes-c.ensures
     c.wrapping_add_u64-first.ensures.value c.stride-stride.ensures c.wrapping_add_u64-behind.ensures.value c.patch_bitmap.ensures
-
-pub shape_of-image : goal.shape_of-image
-shape_of-image c = search workings
 
 pub returns : goal.returns
 returns c = working_end c.requires c.loop-at.invariant c.loop-at-test.false
