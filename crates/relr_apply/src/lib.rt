@@ -94,8 +94,8 @@ fn add_strip(
 {
     let c = k.bytes() as usize;
     let y = bits as usize * (2 * c);
-    for j in (0..bytes).step_by(c) {
-        add_entry(k, &mut *image, x + j, strips, y + j);
+    for t in 0..bytes / c {
+        add_entry(k, &mut *image, x + t * c, strips, y + t * c);
     }
 }
 
@@ -167,7 +167,8 @@ fn patch_bitmap(k: Class, pace: Pace, image: &mut [u8], base: u64, first: u64, x
 }
 
 // The second pass, over a table that the first accepted, whose words all lie inside the image. The index of the word before *where* is kept, and
-// wraps: beyond the space no bitmap has a bit set. (What it goes by is handed in: so the compiler puts it in line for each class.)
+// wraps: beyond the space no bitmap has a bit set. (It is put in line for each class, so that each has a loop of its own.)
+#[inline(always)]
 fn patch(k: Class, pace: Pace, s: &[u8], base: u64, start: u64, image: &mut [u8])
     requires { Aimed k base pace s.now start image.old }
     ensures { Patched k s.now base start image.old image.new }
@@ -190,7 +191,7 @@ fn patch(k: Class, pace: Pace, s: &[u8], base: u64, start: u64, image: &mut [u8]
     }
 }
 
-// The same by the class as constants, so that the compiler makes a loop for each. (So it also knows the window there.)
+// The same by the class as constants. (The window is taken from them, so that the compiler knows it in each loop.)
 fn patch_by<const WIDE: bool, const BIG: bool>(
     pace: Pace,
     s: &[u8],

@@ -6,7 +6,7 @@ pub returns-then-largest-base : goal.returns-then-largest-base
 returns-then-largest-base c = search applies
 
 pub patch_class-requires : goal.patch_class-requires
-patch_class-requires c = 
+patch_class-requires c =
     apply_targeted c.args.k c.args.table.now c.args.base c.args.start c.args.image.now c.largest.ensures (search rules) c.end.result c.if-largest-base.false c.find.ensures c.end.ensures c.in-Ok.is
 
 pub returns-in-Err : goal.returns-in-Err

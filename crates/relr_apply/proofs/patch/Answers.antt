@@ -11,14 +11,14 @@ pub add_at-requires : goal.add_at-requires
 add_at-requires c = search workings
 
 pub loop-at-preserved-then-x-eq0 : goal.loop-at-preserved-then-x-eq0
-loop-at-preserved-then-x-eq0 c = 
+loop-at-preserved-then-x-eq0 c =
     working_one c.requires c.loop-at.invariant c.loop-at-test.true c.load-x.ensures.0 c.if-x-eq0.true c.bytes-c.ensures c.add_at.ensures
 
 pub patch_bitmap-requires : goal.patch_bitmap-requires
 patch_bitmap-requires c = search workings
 
 pub loop-at-preserved : goal.loop-at-preserved
-loop-at-preserved c = 
+loop-at-preserved c =
     working_more c.requires c.loop-at.invariant c.loop-at-test.true c.load-x.ensures.0 c.load-x.ensures.1 c.if-x-eq0.false c.bytes-c.ensures
     c.wrapping_add_u64-first.ensures.value c.stride-stride.ensures c.wrapping_add_u64-behind.ensures.value c.patch_bitmap.ensures
 

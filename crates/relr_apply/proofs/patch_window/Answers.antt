@@ -7,11 +7,11 @@ pub loop-j-init : goal.loop-j-init
 loop-j-init c = search rollings
 
 pub add_strip-requires : goal.add_strip-requires
-add_strip-requires c = 
+add_strip-requires c =
     elim c.if-window-j-lt2.branch [ then-window-j-lt2 w ↦ search rollings | else-window-j-lt2 w ↦ search rollings ]
 
 pub loop-j-preserved : goal.loop-j-preserved
-loop-j-preserved c = 
+loop-j-preserved c =
     let strip = c.add_strip.ensures in
     let g = c.loop-j.invariant in
     let l = c.loop-j-test.true in
@@ -26,7 +26,7 @@ pub returns : goal.returns
 returns c = search rollings
 
 pub returns-after-window-j-lt2 : goal.returns-after-window-j-lt2
-returns-after-window-j-lt2 c = 
+returns-after-window-j-lt2 c =
     let strip = c.add_strip.ensures in
     let g = c.loop-j.invariant in
     let l = c.loop-j-test.true in
