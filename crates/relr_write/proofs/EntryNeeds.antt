@@ -21,20 +21,7 @@ use Rattle.answer.specs.declared.Refusal.{Refusal}
 use Rattle.answer.specs.declared.Refusal.TheVariants.{Order, Space, Odd}
 use Rattle.answer.specs.Outcome.{Outcome, refused}
 
--- ---- a bad offset
-module _ (k : Class) (x least : ℕ) where
-  pub fault_odd : x % 2 ≡ 1 → Err Odd ≡ fault_of k x least
-  fault_odd e = rw e
-
-  pub fault_space : {last : ℕ} → last < x → last + bytes_of k ≡ space_of k → (x % 2 ≡ 1 → ⊥) → Err Space ≡ fault_of k x least
-  fault_space h e o = rw (ne_eqb (x % 2) 1 o, lt-ltb (space_of k) (x + bytes_of k) (omega arith))
-
-  pub fault_order : {last : ℕ} → x < least → x ≤ last → last + bytes_of k ≡ space_of k → (x % 2 ≡ 1 → ⊥) → Err Order ≡ fault_of k x least
-  fault_order l h e o = rw (ne_eqb (x % 2) 1 o, le-ltb (space_of k) (x + bytes_of k) (omega arith), lt-ltb x least l)
-
-  pub fault_none : {last : ℕ} → least ≤ x → x ≤ last → last + bytes_of k ≡ space_of k → (x % 2 ≡ 1 → ⊥) → Ok tt ≡ fault_of k x least
-  fault_none l h e o = rw (ne_eqb (x % 2) 1 o, le-ltb (space_of k) (x + bytes_of k) (omega arith), le-ltb x least l)
-
+-- ---- an offset's fault
 -- what a clean offset is
 pub record Sound (k : Class) (x least : ℕ) : Type 0 where
   pub even : x % 2 ≡ 0
@@ -71,12 +58,6 @@ checked_bad k x least i l o {why} e = go (eqb (x % 2) 1) (ltb (space_of k) (x + 
 pub checked_clean : (k : Class) (x least i : ℕ) (l : List ℕ) (o : Outcome (List ℕ)) → Sound k x least
     → checked (bytes_of k) (space_of k) i least (x ∷ l) o ≡ checked (bytes_of k) (space_of k) (i + 1) (x + 1) l o
 checked_clean k x least i l o h = checked_more (bytes_of k) (space_of k) i least x l o (λ z. absurd (omega (arith, h.even))) h.in_space h.above
-
-pub ruleset faults = (fault_odd, fault_space, fault_order, fault_none, rules)
-
--- ---- a bit
-pub bit_is : {j : ℕ} → j < 63 → 1 * 2 ^ j % 2 ^ 64 ≡ 2 ^ j
-bit_is {j} h = shl_exact 1 j 64 (omega arith) (omega arith) ∙ omega arith
 
 -- ---- the location of an offset
 and_false : (b : Bool) → (b && false) ≡ false
@@ -278,21 +259,12 @@ module _ (k : Class) (p : Pending) (x : ℕ) where
 pub small_on : (k : Class) (j n : ℕ) → n ≡ window_of k → j < n → Small (Some j)
 small_on k j n e h = omega (arith, bytes_most k)
 
-pub small_off : Small None
-small_off = tt
-
-pub small_is : {r : Option ℕ} {j : ℕ} → Small r → r ≡ Some j → j < 63
-small_is h e = subst Small e h
-
-pub bit_sum : (b r j : ℕ) → b < 2 ^ 63 → r ≡ 2 ^ j → j < 63 → Fits w64 (b + r)
-bit_sum b r j h e l = let m : suc j ≤ 63 = omega arith in record { fits = omega (arith, pow_mono m) }
-
 pub located_on : (k : Class) (p : Place) (x : ℕ) {r : Option ℕ} {j : ℕ} → LocatedAt k p x r → r ≡ Some j → LocatedAt k p x (Some j)
 located_on k p x f e w s = subst (Located k w x) e (f w s)
 
 pub located_off : (k : Class) (p : Place) (x : ℕ) {r : Option ℕ} → LocatedAt k p x r → r ≡ None → LocatedAt k p x None
 located_off k p x f e w s = subst (Located k w x) e (f w s)
 
-pub ruleset locating = (bit_is, off_at, on_at, forward_far, forward_at, bitmap_in, small_on, small_off, rules)
+pub ruleset locating = (off_at, on_at, forward_far, forward_at, small_on, rules)
 
-pub ruleset packing = (join_is, alone_is, flush_is, small_is, bit_sum, located_on, located_off, rules)
+pub ruleset packing = (join_is, alone_is, flush_is, located_on, located_off, rules)

@@ -81,13 +81,7 @@ pub record Sizing (k : Class) (l : List ℕ) (i least : ℕ) (p : Place) (b word
   pub few : words + b ≤ 2 * i
   pub clean : (o : Outcome (List ℕ)) → checked (bytes_of k) (space_of k) 0 0 l o ≡ checked (bytes_of k) (space_of k) i least (drop i l) o
 
-pub sizing_begin : (k : Class) (l : List ℕ) → Sizing k l 0 0 Nowhere 0 0
-sizing_begin k l = record { w = nowhere; holding = holding_begin k; flag = omega arith; so = omega arith; few = omega arith; clean = λ o. refl }
-
 module _ {k : Class} {l : List ℕ} {i least b words : ℕ} {p : Place} (h : Sizing k l i least p b words) where
-  pub sizing_small : b < 2 ^ 63
-  sizing_small = omega (arith, h.flag)
-
   module _ {n x : ℕ} {f : Result (Unit {0}) Refusal} (ne : n ≡ length l) (il : i < n) (xe : x ≡ get_or l i 0) (fe : f ≡ fault_of k x least) where
     left : drop i l ≡ x ∷ drop (i + 1) l
     left = rw (xe, add-one) (drop-cons l i 0 (omega arith))
@@ -99,21 +93,6 @@ module _ {k : Class} {l : List ℕ} {i least b words : ℕ} {p : Place} (h : Siz
     module _ (e : f ≡ Ok tt) where
       ok : Sound k x least
       ok = sound k x least (sym fe ∙ e)
-
-      pub sizing_in : x + bytes_of k ≤ space_of k
-      sizing_in = ok.in_space
-
-      pub sizing_even : x % 2 ≡ 0
-      sizing_even = ok.even
-
-      pub sizing_near : Near p x
-      sizing_near = λ z. omega (arith, h.holding.near z, ok.above)
-
-      pub sizing_next : Fits w64 (x + 1)
-      sizing_next = let m : bits_of k ≤ 64 = omega (arith, bytes_most k) in record { fits = omega (arith, ok.in_space, pow_mono m, bytes_least k) }
-
-      pub sizing_add : length l ≤ list_limit → Fits w64 (words + 1)
-      sizing_add m = record { fits = omega (arith, h.few, list_small) }
 
       module _ {r : Packed} (pk : Packs k (record { place = p; bits = b }) x r) where
         acts : Acts k least h.w (record { place = p; bits = b }) x r
@@ -141,22 +120,6 @@ module _ {k : Class} {l : List ℕ} {i least b words : ℕ} {p : Place} (h : Siz
           before : Precedes k least h.w b x y q
           before = subst (Acts k least h.w (record { place = p; bits = b }) x) re acts
 
-          pub sizing_less : 2 * (n - i) + 0 < 2 * (n - i) + b
-          sizing_less = omega (arith, before.some)
-
-          pub sizing_flush : Sizing k l i least q.place 0 (words + 1)
-          sizing_flush =
-              let a = before in
-              let s : length (words_for k h.w b (drop i l)) ≡ 1 + length (words_for k a.v 0 (drop i l)) = rw left (ap length (a.is (drop (i + 1) l)) ∙ omega arith) in
-              record {
-                w = a.v;
-                holding = a.holding;
-                flag = omega arith;
-                so = omega (arith, h.so, s);
-                few = omega (arith, h.few, a.some);
-                clean = h.clean;
-              }
-
         pub sizing_alone : {q : Pending} → r ≡ Alone q → Sizing k l (i + 1) (x + 1) q.place b (words + 1)
         sizing_alone {q} re =
             let (be, qe, a) = subst (Acts k least h.w (record { place = p; bits = b }) x) re acts in
@@ -172,14 +135,6 @@ module _ {k : Class} {l : List ℕ} {i least b words : ℕ} {p : Place} (h : Siz
               clean = still;
             }
 
-  pub sizing_sum : length l ≤ list_limit → i ≤ length l → Fits w64 (words + b)
-  sizing_sum m q = record { fits = omega (arith, h.few, list_small) }
-
-  pub sizing_product : {c : ℕ} → c ≡ bytes_of k → length l ≤ list_limit → i ≤ length l → Fits w64 ((words + b) * c)
-  sizing_product {c} ce m q =
-      let f : c ≤ 8 = omega (arith, bytes_most k) in
-      record { fits = omega (arith, h.few, mul-le-mul_left (words + b) f, list_small) }
-
   pub sizing_end : {n c : ℕ} → n ≡ length l → n ≤ i → c ≡ bytes_of k → Ok ((words + b) * c) ≡ found_of (build k l)
   unfolding build Legal
   sizing_end ne il ce =
@@ -193,7 +148,7 @@ module _ {k : Class} {l : List ℕ} {i least b words : ℕ} {p : Place} (h : Siz
       ends zero q = refl
       ends (suc t) q = rw (lt-ltb 0 (suc t) (omega arith)) (omega arith)
 
-pub ruleset sizings = (sizing_begin, sizing_small, sizing_bad, sizing_in, sizing_even, sizing_near, sizing_next, sizing_add, sizing_join, sizing_less, sizing_flush, sizing_alone, sizing_sum, sizing_product, sizing_end, rules)
+pub ruleset sizings = (sizing_bad, sizing_join, sizing_alone, sizing_end, rules)
 
 -- ---- the second pass: the words passed, and the offsets left
 pub record Packing (k : Class) (l out : List ℕ) (i lo : ℕ) (p : Pending) : Type 0 where
