@@ -116,10 +116,6 @@ module _ {k : Class} {l : List ℕ} {i least b words : ℕ} {p : Place} (h : Siz
               clean = still;
             }
 
-        module _ {y : ℕ} {q : Pending} (re : r ≡ Flushed y q) where
-          before : Precedes k least h.w b x y q
-          before = subst (Acts k least h.w (record { place = p; bits = b }) x) re acts
-
         pub sizing_alone : {q : Pending} → r ≡ Alone q → Sizing k l (i + 1) (x + 1) q.place b (words + 1)
         sizing_alone {q} re =
             let (be, qe, a) = subst (Acts k least h.w (record { place = p; bits = b }) x) re acts in
@@ -211,10 +207,7 @@ word_long k w = bytes_words_length k (w ∷ []) ∙ omega arith
 pub put_one : (k : Class) (old : List ℕ) (at w c : ℕ) {new : List ℕ} → c ≡ bytes_of k → new ≡ with_word k old at w → Written old new at (at + c) (bytes_of_words k (w ∷ []))
 put_one k old at w c ce e = record { list = e ∙ store_sets k old at w ∙ rw bytes_words_one; place = omega (arith, word_long k w) }
 
-pub put_fits : (k : Class) (old : List ℕ) (at c : ℕ) → c ≡ bytes_of k → Room at (bytes_of k) old → length old < 2 ^ 64 → Fits w64 (at + c)
-put_fits k old at c e h l = record { fits = omega arith }
-
-pub ruleset stores = (put_one, put_fits, rules)
+pub ruleset stores = (put_one, rules)
 
 -- ---- the second pass
 pub record Putting (k : Class) (l old : List ℕ) (i : ℕ) (p : Pending) (at : ℕ) (now : List ℕ) : Type 0 where
@@ -261,9 +254,6 @@ module _ {k : Class} {l old : List ℕ} (f : Encodable k l old) {i at : ℕ} {p 
 
   pub putting_small : p.bits < 2 ^ 63
   putting_small = holding_small k g.packing.holding
-
-  pub putting_kept : (new : List ℕ) → length new ≡ length now → length new ≡ length old
-  putting_kept new e = e ∙ putting_long
 
   stored : (b : List ℕ) {n : ℕ} {new : List ℕ} → at + length (bytes_of_words k b) ≤ length old → Written now new at n (bytes_of_words k b)
       → (n ≡ length (bytes_of_words k (g.out ++ b))) × (new ≡ bytes_of_words k (g.out ++ b) ++ drop n old)
@@ -341,18 +331,7 @@ module _ {k : Class} {l old : List ℕ} (f : Encodable k l old) {i at : ℕ} {p 
   pub putting_end : {n : ℕ} → n ≡ length l → n ≤ i → Leaves k l old (record { at = at; bits = p.bits }) now
   putting_end ne il = record { out = g.out; so = packing_end g.packing (omega arith); small = putting_small; place = g.place; held = g.held }
 
--- an offset more, with at most one word pending
-end_most : (b : ℕ) → length (end_of b) ≤ 1
-end_most b = go (ltb 0 b)
-  where
-    go : (t : Bool) → length (cond t ((2 * b + 1) ∷ []) []) ≤ 1
-    go true = omega arith
-    go false = omega arith
-
-pub taken_less : (n i a b : ℕ) → i < n → 2 * (n - (i + 1)) + length (end_of a) < 2 * (n - i) + length (end_of b)
-taken_less n i a b h = omega (arith, end_most a)
-
-pub ruleset puttings = (putting_begin, putting_long, putting_kept, putting_small, putting_in, putting_even, putting_near, putting_join, putting_room_alone, putting_alone, putting_room_flushed, putting_flush, putting_less, taken_less, putting_end, rules)
+pub ruleset puttings = (putting_begin, putting_long, putting_small, putting_in, putting_even, putting_near, putting_join, putting_room_alone, putting_alone, putting_room_flushed, putting_flush, putting_less, putting_end, rules)
 
 -- ---- the bitmap that is pending at the end
 module _ {k : Class} {l old : List ℕ} (f : Encodable k l old) {r : Rest} {now : List ℕ} (g : Leaves k l old r now) where
@@ -366,19 +345,8 @@ module _ {k : Class} {l old : List ℕ} (f : Encodable k l old) {r : Rest} {now 
         length-append (bytes_of_words k g.out) (bytes_of_words k (end_of r.bits)),
       )
 
-  pub leaving_long : length now ≡ length old
+  leaving_long : length now ≡ length old
   leaving_long = buffer_long (bytes_of_words k g.out) old r.at g.held (sym g.place) (omega (arith, f.room, bytes_all))
-
-  pub leaving_double : Fits w64 (2 * r.bits)
-  leaving_double = record { fits = omega (arith, g.small) }
-
-  pub leaving_full : Fits w64 (2 * r.bits + 1)
-  leaving_full = record { fits = omega (arith, g.small) }
-
-  pub leaving_done : r.bits ≤ 0 → now ≡ table_bytes k l ++ drop (length (table_bytes k l)) old
-  leaving_done z =
-      let e : table (bytes_of k) (window_of k) l ≡ g.out = g.so ∙ rw (le-ltb 0 r.bits z) (append-nil g.out) in
-      rw (e, ← g.place) g.held
 
   module _ (pos : 0 < r.bits) where
     last : end_of r.bits ≡ (2 * r.bits + 1) ∷ []
@@ -397,27 +365,7 @@ module _ {k : Class} {l old : List ℕ} (f : Encodable k l old) {r : Rest} {now 
         ∙ buffer_more (bytes_of_words k g.out) old r.at (bytes_of_words k ((2 * r.bits + 1) ∷ [])) g.held (sym g.place) (omega (arith, f.room, h))
         ∙ rw (e, h)
 
-pub ruleset leavings = (leaving_long, leaving_double, leaving_full, leaving_done, leaving_room, leaving_end, rules)
-
--- ---- one class by two names
-module _ {k j : Class} (e : k ≡ j) (l : List ℕ) where
-  pub sized_to : {f : Result ℕ Refused} → f ≡ found_of (build k l) → f ≡ found_of (build j l)
-  sized_to {f} h = subst (λ (i : Class). f ≡ found_of (build i l)) e h
-
-  module _ {old : List ℕ} where
-    pub encodable_to : Encodable k l old → Encodable j l old
-    encodable_to h = subst (λ (i : Class). Encodable i l old) e h
-
-    pub encodable_from : Encodable j l old → Encodable k l old
-    encodable_from h = subst (λ (i : Class). Encodable i l old) (sym e) h
-
-    pub leaves_to : {r : Rest} {new : List ℕ} → Leaves k l old r new → Leaves j l old r new
-    leaves_to {r} {new} h = subst (λ (i : Class). Leaves i l old r new) e h
-
-    pub leaves_from : {r : Rest} {new : List ℕ} → Leaves j l old r new → Leaves k l old r new
-    leaves_from {r} {new} h = subst (λ (i : Class). Leaves i l old r new) (sym e) h
-
-pub ruleset names = (class_is, sized_to, encodable_to, encodable_from, leaves_to, leaves_from, rules)
+pub ruleset leavings = (leaving_room, leaving_end, rules)
 
 -- ---- a write for a class: f is what the first pass found
 pub measure_over : (k : Class) (l : List ℕ) → list_limit < length l → Err (refused_at Limit 0) ≡ found_of (encode k l)
