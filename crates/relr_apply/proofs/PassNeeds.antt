@@ -144,7 +144,7 @@ module _ {k : Class} {old : List ℕ} {base first set : ℕ} (m : Patchable k ol
       pub zeros_set : {new : List ℕ} → new ≡ added k base image x → Patching k old base first set new (bit_and bits (bits - 1))
       zeros_set = next_set zeros ce xe
 
-pub ruleset patchings = (adds, patching_begin, patching_long, patching_end, zeros_in, zeros_set, zeros_fit, zeros_far, zeros_less, rules)
+pub ruleset patchings = (adds, patching_begin, patching_end, zeros_in, zeros_set, rules)
 
 -- where all bits are set
 pub record Running (k : Class) (old : List ℕ) (base first n : ℕ) (image : List ℕ) (j : ℕ) : Type 0 where
@@ -157,18 +157,12 @@ module _ {k : Class} {old : List ℕ} {base first n : ℕ} (r : Runs k n old fir
   running_begin = record { window = r.locations; within = omega arith; patching = patching_begin r.patchable }
 
   module _ {image : List ℕ} {j : ℕ} (g : Running k old base first n image j) where
-    pub running_long : length image ≡ length old
-    running_long = patching_long r.patchable g.patching
-
     pub running_end : n ≤ j → image ≡ patched k base (spots_of k (full k) first) old
     running_end l = patching_end r.patchable g.patching (full_none k j (omega (arith, g.within, g.window)))
 
     module _ {c : ℕ} (l : j < n) (ce : c ≡ bytes_of k) where
       step : Next k first (2 ^ window_of k - 2 ^ j) j (2 ^ window_of k - 2 ^ (j + 1))
       step = next_full k first j (omega (arith, g.window))
-
-      pub running_far : Fits w64 (j * c)
-      running_far = far_small k j step.within ce
 
       module _ {x : ℕ} (xe : x ≡ (first + j * c) % 2 ^ 64) where
         pub running_in : x + bytes_of k ≤ length image
@@ -177,38 +171,10 @@ module _ {k : Class} {old : List ℕ} {base first n : ℕ} (r : Runs k n old fir
         pub running_set : {new : List ℕ} → new ≡ added k base image x → Running k old base first n new (j + 1)
         running_set e = record { window = g.window; within = omega arith; patching = next_set r.patchable g.patching step ce xe e }
 
-pub ruleset runnings = (running_begin, running_long, running_end, running_far, running_in, running_set, run_bit, run_less, rules)
-
--- how many windows fit
-module _ (k : Class) (size : ℕ) {d : ℕ} (de : d ≡ window_of k * bytes_of k) where
-  pub windows_none : size < d → Windows k size 0
-  windows_none h = record { are = λ x. le-ltb x 0 (omega arith) ∙ sym (lt-leb (x + window_of k * bytes_of k) size (omega arith)) }
-
-  pub windows_some : d ≤ size → Windows k size (size - d + 1)
-  windows_some h =
-      record {
-        are = λ x. elim (dec_le (x + window_of k * bytes_of k) size) [
-          | yes l ↦ lt-ltb x (size - d + 1) (omega arith) ∙ sym (le-leb (x + window_of k * bytes_of k) size l)
-          | no l ↦ le-ltb x (size - d + 1) (omega arith) ∙ sym (lt-leb (x + window_of k * bytes_of k) size (omega arith))
-        ];
-      }
-
-  pub windows_fit : size < 2 ^ 64 → Fits w64 (size - d + 1)
-  windows_fit h = record { fits = omega (arith, some) }
-    where
-      one : 1 ≤ window_of k
-      one = omega (arith, bytes_least k)
-
-      some : 0 < d
-      some = rw de (omega (arith, bytes_least k, mul-le-mul_right (bytes_of k) one))
-
-pub ruleset fittings = (windows_none, windows_some, windows_fit, rules)
+pub ruleset runnings = (running_begin, running_end, running_in, running_set, rules)
 
 -- which it is
 module _ {k : Class} {base : ℕ} {pace : Pace} {image : List ℕ} {first set : ℕ} (s : Sized k base pace image first set) where
-  pub bitmap_marks : Patchable k image first set
-  bitmap_marks = s.patchable
-
   pub bitmap_spacious : first < pace.room → Spacious k pace.window base pace.strips.now image first
   bitmap_spacious l =
       record {
@@ -217,14 +183,7 @@ module _ {k : Class} {base : ℕ} {pace : Pace} {image : List ℕ} {first set : 
         room = leb-true (first + window_of k * bytes_of k) (length image) (sym (s.paced.windows.are first) ∙ lt-ltb first pace.room l);
       }
 
-  module _ (e : set ≡ pace.all) where
-    pub bitmap_run : Runs k pace.window image first
-    bitmap_run = record { locations = s.paced.locations; patchable = subst (λ (b : ℕ). Patchable k image first b) (e ∙ s.paced.bits) s.patchable }
-
-    pub bitmap_ran : {new : List ℕ} → new ≡ patched k base (spots_of k (full k) first) image → new ≡ patched k base (spots_of k set first) image
-    bitmap_ran {new} = subst (λ (b : ℕ). new ≡ patched k base (spots_of k b first) image) (sym (e ∙ s.paced.bits))
-
-pub ruleset bitmaps = (bitmap_marks, bitmap_spacious, bitmap_run, bitmap_ran, rules)
+pub ruleset bitmaps = (bitmap_spacious, rules)
 
 -- ---- a table's words
 -- the index of the word before *where*, and of the first location of the next bitmap
@@ -305,11 +264,7 @@ module _ {k : Class} {base : ℕ} {pace : Pace} {s old : List ℕ} {start : ℕ}
         working_more {d = d} de be u =
             more word ce (rw (be, ← de) (index_on behind start (bytes_of k) d)) (u ∙ ap (λ (l : List ℕ). patched k base l image) spots.0)
 
-module _ {k : Class} {s old : List ℕ} {base start at behind : ℕ} {image : List ℕ} (g : Working k s old base start at behind image) where
-  pub working_load : at < length s → at + bytes_of k ≤ length s
-  working_load l = following_load g.following l
-
-pub ruleset workings = (working_begin, working_long, working_end, working_low, working_in, working_one, working_marks, working_load, step_fits, step_less, rules)
+pub ruleset workings = (working_begin, working_end, working_low, working_in, working_one, working_marks, rules)
 
 -- ---- one class by two names
 module _ {k j : Class} (e : k ≡ j) (s old : List ℕ) (start : ℕ) where
@@ -319,65 +274,7 @@ module _ {k j : Class} (e : k ≡ j) (s old : List ℕ) (start : ℕ) where
       subst (λ (i : Class). Aimed i base pace s start old) e
       (record { targeted = h; paced = record { locations = ne; addends = r; bits = ae; windows = w } })
 
-  pub aimed_from : {base : ℕ} {pace : Pace} → Aimed j base pace s start old → Aimed k base pace s start old
-  aimed_from {base} {pace} h = subst (λ (i : Class). Aimed i base pace s start old) (sym e) h
-
-  module _ (base : ℕ) {new : List ℕ} where
-    pub patched_to : Patched k s base start old new → Patched j s base start old new
-    patched_to h = subst (λ (i : Class). Patched i s base start old new) e h
-
-    pub patched_from : Patched j s base start old new → Patched k s base start old new
-    patched_from h = subst (λ (i : Class). Patched i s base start old new) (sym e) h
-
-pub ruleset classes = (class_is, aimed_to, aimed_from, patched_to, patched_from, rules)
-
--- ---- the end of an image
-module _ (k : Class) (start size : ℕ) where
-  nowhere_inside : ((x : ℕ) → x + bytes_of k ≤ space_of k → start ≤ x → size < x - start + bytes_of k) → End k start size 0
-  nowhere_inside h x g =
-      elim (dec_le start x) [
-        | yes l ↦ rw (le-leb start x l, lt-leb (x - start + bytes_of k) size (h x g l)) (le-ltb x 0 (omega arith))
-        | no l ↦ rw (lt-leb start x (omega arith))
-      ]
-
-  module _ (c last : ℕ) (ce : c ≡ bytes_of k) (le : last + bytes_of k ≡ space_of k) where
-    pub end_short : size < c → End k start size 0
-    end_short h = nowhere_inside (λ x g l. omega arith)
-
-    pub end_past : last < start → End k start size 0
-    end_past h = nowhere_inside (λ x g l. omega arith)
-
-    pub end_space : c ≤ size → start ≤ last → last - start < size - c → End k start size (last + 1)
-    end_space h f l x g =
-        elim (dec_le start x) [
-          | yes q ↦ rw (le-leb start x q, lt-ltb x (last + 1) (omega arith)) (sym (le-leb (x - start + bytes_of k) size (omega arith)))
-          | no q ↦ rw (lt-leb start x (omega arith))
-        ]
-
-    pub end_image : c ≤ size → start ≤ last → size - c ≤ last - start → End k start size (start + (size - c) + 1)
-    end_image h f l x g =
-        elim (dec_le start x) [
-          | yes q ↦ rw (le-leb start x q) (same q)
-          | no q ↦ rw (lt-leb start x (omega arith))
-        ]
-      where
-        same : start ≤ x → ltb x (start + (size - c) + 1) ≡ leb (x - start + bytes_of k) size
-        same q =
-            elim (dec_le (x - start + bytes_of k) size) [
-              | yes n ↦ rw (le-leb (x - start + bytes_of k) size n) (lt-ltb x (start + (size - c) + 1) (omega arith))
-              | no n ↦ rw (lt-leb (x - start + bytes_of k) size (omega arith)) (le-ltb x (start + (size - c) + 1) (omega arith))
-            ]
-
-    pub end_last : Fits w64 (last + 1)
-    end_last = record { fits = omega (arith, space_most k, bytes_least k) }
-
-    pub end_sum : start ≤ last → size - c ≤ last - start → Fits w64 (start + (size - c))
-    end_sum f l = record { fits = omega (arith, space_most k, bytes_least k) }
-
-    pub end_next : start ≤ last → size - c ≤ last - start → Fits w64 (start + (size - c) + 1)
-    end_next f l = record { fits = omega (arith, space_most k, bytes_least k) }
-
-pub ruleset ends = (end_short, end_past, end_space, end_image, end_last, end_sum, end_next, rules)
+pub ruleset classes = (class_is, aimed_to, rules)
 
 -- ---- applying as a whole
 pub over_is : (k : Class) (base m : ℕ) → m + 1 ≡ 2 ^ bits_of k → base < 2 ^ 64 → ltb m base ≡ above k base
@@ -435,4 +332,4 @@ module _ (k : Class) (s : List ℕ) (base start : ℕ) (old : List ℕ) where
               image = p has.list (decode_good k s has.list both.0).1 ∙ sym (changed_accepted has.is);
             }
 
-pub ruleset applies = (apply_over, apply_refused, apply_targeted, apply_done, rules)
+pub ruleset applies = (apply_over, apply_refused, apply_done, rules)

@@ -23,43 +23,13 @@ pub record Filling (k : Class) (base : ℕ) (strips : List ℕ) (e : ℕ) : Type
 eight : (k : Class) (e : ℕ) → e < 8 → e * bytes_of k + bytes_of k ≤ 64
 eight k e l = by_bytes (λ (c : ℕ). e * c + c ≤ 64) (omega arith) (omega arith) k
 
--- a bit is 0 or 1
-bit_fits : (base b : ℕ) → base < 2 ^ 64 → b < 2 → Fits w64 (base * b)
-bit_fits base zero h l = record { fits = omega arith }
-bit_fits base (suc zero) h l = record { fits = omega arith }
-bit_fits base (suc (suc b)) h l = absurd (omega arith)
-
-pub fill_begin : (k : Class) (base : ℕ) {strips : List ℕ} → length strips ≡ 64 → Filling k base strips 0
-fill_begin k base l = record { within = omega arith; filled = record { long = l; each = λ i h. absurd (omega arith) } }
-
 module _ {k : Class} {base : ℕ} {strips : List ℕ} {e : ℕ} (g : Filling k base strips e) where
-  pub fill_end : 8 ≤ e → Filled k base 8 strips
-  fill_end h = let q : e ≡ 8 = omega (arith, g.within) in rw q at g.filled
-
   module _ (l : e < 8) where
-    pub fill_shift : e % 2 < 64
-    fill_shift = omega arith
-
-    pub fill_addend : base < 2 ^ 64 → Fits w64 (addend base e)
-    fill_addend h = bit_fits base (e / 2 / 2 ^ (e % 2) % 2) h (omega arith)
-
-    pub fill_next : Fits w64 (e + 1)
-    fill_next = record { fits = omega arith }
-
-    pub fill_less : 8 - (e + 1) < 8 - e
-    fill_less = omega arith
-
     module _ {c : ℕ} (ce : c ≡ bytes_of k) where
-      pub fill_place : Fits w64 (e * c)
-      fill_place = record { fits = rw ce (omega (arith, eight k e l)) }
-
       room : e * bytes_of k + bytes_of k ≤ length strips
       room = rw g.filled.long (eight k e l)
 
       module _ {j : Class} (je : j ≡ low_of k) where
-        pub fill_in : e * c + bytes_of j ≤ length strips
-        fill_in = rw (je, ce) room
-
         pub fill_more : {a : ℕ} {new : List ℕ} → a ≡ (0 + addend base e) % 2 ^ bits_of k → new ≡ with_word j strips (e * c) a → Filling k base new (e + 1)
         fill_more {a} {new} ae u =
             let n : new ≡ with_word (low_of k) strips (e * bytes_of k) a = u ∙ rw (je, ce) in
@@ -82,21 +52,9 @@ module _ {k : Class} {base : ℕ} {strips : List ℕ} {e : ℕ} (g : Filling k b
                 let q : i ≡ e = omega arith in
                 rw q (load_store (low_of k) strips (e * bytes_of k) a room small ∙ ae ∙ rw zero-add)
 
-pub ruleset fillings = (fill_begin, fill_end, fill_shift, fill_addend, fill_next, fill_less, fill_place, fill_in, fill_more, rules)
+pub ruleset fillings = (fill_more, rules)
 
--- ---- an addition of a word of the strips
-module _ (k : Class) {i : Class} (ie : i ≡ low_of k) where
-  pub entry_load : (y : ℕ) (strips : List ℕ) → y + bytes_of k ≤ length strips → y + bytes_of i ≤ length strips
-  entry_load y strips h = rw ie h
-
-  pub entry_summed : (x y : ℕ) (strips image : List ℕ) {new : List ℕ} {w v a : ℕ} → new ≡ with_word k image x a → a ≡ (w + v) % 2 ^ bits_of k → w ≡ word_at k image x
-      → w < 2 ^ bits_of k → with_word k image x w ≡ image → v ≡ word_at i strips y → Summed k strips y image new x
-  entry_summed x y strips image {new} {w} {v} {a} u ae we wl back ve =
-      record { small = rw we at wl; back = rw we at back; is = u ∙ ap (with_word k image x) (ae ∙ rw (we, ve, ie)) }
-
-pub ruleset entries = (entry_load, entry_summed, rules)
-
--- which is one made once or not at all
+-- ---- an addition of a word of the strips, which is one made once or not at all
 times_added : (k : Class) (base b : ℕ) {strips image new : List ℕ} {x y : ℕ} → Summed k strips y image new x → word_at (low_of k) strips y ≡ base * b % 2 ^ bits_of k → Added k base b image new x
 times_added k base b {strips} {image} {new} {x} {y} g e =
     let w = word_at k image x in
@@ -111,9 +69,6 @@ times_added k base b {strips} {image} {new} {x} {y} g e =
     }
 
 -- ---- a strip
-pub two_fit : (k : Class) {c : ℕ} → c ≡ bytes_of k → Fits w64 (2 * c)
-two_fit k ce = record { fits = rw ce (omega (arith, bytes_most k)) }
-
 -- so many bytes are so many words
 words_of_law : (k : Class) (t : ℕ) {n : ℕ} → n ≡ t * bytes_of k → n / bytes_of k ≡ t
 words_of_law k t e = let some : 0 < bytes_of k = omega (arith, bytes_least k) in rw e (mul-div_cancel t some)
@@ -133,20 +88,11 @@ pub record Along (k : Class) (old : List ℕ) (base x bits n : ℕ) (image : Lis
   pub swept : Swept k base t bits x old image
 
 module _ {k : Class} {base : ℕ} {strips old : List ℕ} {x bits n : ℕ} (m : Strip k base strips old x bits n) where
-  pub strip_begin : Along k old base x bits n old 0
-  strip_begin = record { t = 0; here = omega arith; within = omega arith; same = refl; swept = refl }
-
   -- where the strip begins
   strip_at : bits * (2 * bytes_of k) ≤ 48
   strip_at = by_bytes (λ (c : ℕ). bits * (2 * c) ≤ 48) (omega (arith, m.two)) (omega (arith, m.two)) k
 
-  pub strip_place : {c : ℕ} → c ≡ bytes_of k → Fits w64 (bits * (2 * c))
-  strip_place ce = record { fits = rw ce (omega (arith, strip_at)) }
-
   module _ {image : List ℕ} {j : ℕ} (g : Along k old base x bits n image j) where
-    pub strip_long : length image ≡ length old
-    strip_long = g.same
-
     pub strip_end : n ≤ j → StripAdded k base n bits x old image
     strip_end h =
         let q : n ≡ g.t * bytes_of k = omega (arith, g.here, g.within) in
@@ -163,27 +109,9 @@ module _ {k : Class} {base : ℕ} {strips old : List ℕ} {x bits n : ℕ} (m : 
       on : j + bytes_of k ≤ n
       on = omega (arith, mul-le-mul_right (bytes_of k) less, g.here, m.long)
 
-      pub strip_in : x + j + bytes_of k ≤ length image
-      strip_in = rw g.same (omega (arith, on, m.room))
-
-      pub strip_index : length old * 1 < 2 ^ 63 → Fits w64 (x + j)
-      strip_index h = record { fits = omega (arith, on, m.room) }
-
       module _ {c : ℕ} (ce : c ≡ bytes_of k) where
-        pub strip_on : length old * 1 < 2 ^ 63 → Fits w64 (j + c)
-        strip_on h = record { fits = rw ce (omega (arith, on, m.room)) }
-
-        pub strip_less : n - (j + c) < n - j
-        strip_less = rw ce (omega (arith, bytes_least k))
-
         near : bits * (2 * bytes_of k) + j + bytes_of k ≤ 64
         near = omega (arith, strip_at, mul-le-mul_right (bytes_of k) m.few, on, m.long, bytes_most k)
-
-        pub strip_entry : Fits w64 (bits * (2 * c) + j)
-        strip_entry = record { fits = rw ce (omega (arith, near)) }
-
-        pub strip_load : bits * (2 * c) + j + bytes_of k ≤ length strips
-        strip_load = rw (ce, m.addends.long) near
 
         -- the strip has the addend of the word
         entry : word_at (low_of k) strips (bits * (2 * c) + j) ≡ base * (bits / 2 ^ g.t % 2) % 2 ^ bits_of k
@@ -203,7 +131,7 @@ module _ {k : Class} {base : ℕ} {strips old : List ℕ} {x bits n : ℕ} (m : 
               swept = (image, (g.swept, subst (λ (y : ℕ). Added k base b image new (x + y)) g.here (times_added k base b u entry)));
             }
 
-pub ruleset alongs = (two_fit, strip_begin, strip_place, strip_long, strip_end, strip_in, strip_index, strip_on, strip_less, strip_entry, strip_load, strip_next, rules)
+pub ruleset alongs = (strip_end, strip_next, rules)
 
 -- ---- a window, strip by strip
 -- x is the index of the location at j
@@ -283,9 +211,6 @@ module _ {k : Class} {n base : ℕ} {strips old : List ℕ} {first : ℕ} (m : S
       }
 
   module _ {set : ℕ} {image : List ℕ} {bits x j : ℕ} (g : Rolling k old base first set n image bits x j) where
-    pub roll_long : length image ≡ length old
-    roll_long = g.same
-
     pub roll_end : n ≤ j → image ≡ patched k base (spots_of k set first) old
     roll_end h = go (dec_lt n j)
       where
@@ -309,19 +234,10 @@ module _ {k : Class} {n base : ℕ} {strips old : List ℕ} {first : ℕ} (m : S
       small : length old * 1 < 2 ^ 63 → first + window_of k * bytes_of k < 2 ^ 64
       small h = omega (arith, m.room)
 
-      pub roll_count : Fits w64 (j + 2)
-      roll_count = record { fits = omega (arith, m.locations, bytes_most k) }
-
-      pub roll_less : n - (j + 2) < n - j
-      roll_less = omega arith
-
       strip : (t d : ℕ) → t ≤ 2 → j + t ≤ n → d ≡ t * bytes_of k → Strip k base strips image x (bits % 4) d
       strip t d h q e = record { addends = m.addends; two = omega arith; words = t; few = h; long = e; room = rw (g.same, e) (ahead t q) }
 
       module _ {c : ℕ} (ce : c ≡ bytes_of k) where
-        pub roll_on : length old * 1 < 2 ^ 63 → Fits w64 (x + 2 * c)
-        roll_on h = record { fits = rw ce (omega (arith, ahead 0 (omega arith), bytes_most k)) }
-
         module _ {d : ℕ} where
           pub roll_last : n - j < 2 → d ≡ c → Strip k base strips image x (bits % 4) d
           roll_last h e = strip 1 d (omega arith) (omega arith) (e ∙ rw ce (omega arith))
@@ -348,4 +264,4 @@ module _ {k : Class} {n base : ℕ} {strips old : List ℕ} {first : ℕ} (m : S
                   behind = λ q. absurd (omega arith);
                 }
 
-pub ruleset rollings = (two_fit, roll_begin, roll_long, roll_end, roll_count, roll_less, roll_on, roll_last, roll_strip, rules)
+pub ruleset rollings = (roll_begin, roll_end, roll_last, roll_strip, rules)

@@ -131,6 +131,11 @@ module _ {k : Class} {l : List ℕ} {i least b words : ℕ} {p : Place} (h : Siz
               clean = still;
             }
 
+  pub sizing_product : {c : ℕ} → c ≡ bytes_of k → length l ≤ list_limit → i ≤ length l → Fits w64 ((words + b) * c)
+  sizing_product {c} ce m q =
+      let f : c ≤ 8 = omega (arith, bytes_most k) in
+      record { fits = omega (arith, h.few, mul-le-mul_left (words + b) f, list_small) }
+
   pub sizing_end : {n c : ℕ} → n ≡ length l → n ≤ i → c ≡ bytes_of k → Ok ((words + b) * c) ≡ found_of (build k l)
   unfolding build Legal
   sizing_end ne il ce =
@@ -144,7 +149,7 @@ module _ {k : Class} {l : List ℕ} {i least b words : ℕ} {p : Place} (h : Siz
       ends zero q = refl
       ends (suc t) q = rw (lt-ltb 0 (suc t) (omega arith)) (omega arith)
 
-pub ruleset sizings = (sizing_bad, sizing_join, sizing_alone, sizing_end, rules)
+pub ruleset sizings = (sizing_bad, sizing_join, sizing_alone, sizing_product, sizing_end, rules)
 
 -- ---- the second pass: the words passed, and the offsets left
 pub record Packing (k : Class) (l out : List ℕ) (i lo : ℕ) (p : Pending) : Type 0 where
