@@ -169,7 +169,8 @@ fn patch_bitmap(k: Class, pace: Pace, image: &mut [u8], base: u64, first: u64, x
 }
 
 // The second pass, over a table that the first accepted, whose words all lie inside the image. The index of the word before *where* is kept, and
-// wraps: beyond the space no bitmap has a bit set. (It is put in line for each class, so that each has a loop of its own.)
+// wraps: beyond the space no bitmap has a bit set. (It is put in line for each class, so that each has a loop of its own. By
+// `for` with a step that loop takes a fifth more instructions for an address.)
 #[inline(always)]
 fn patch(k: Class, pace: Pace, s: &[u8], base: u64, start: u64, image: &mut [u8])
     requires { Aimed k base pace s.now start image.old }
