@@ -1,10 +1,8 @@
 -- The needs of applying, stated as the code asks them.
 -- Assumes nothing.
 use Rattle.std.proofs.Common.{◌≡◌, ℕ, zero, suc, ◌+◌, ◌-◌, ◌*◌, ◌/◌, ◌%◌, ◌^◌, ◌<◌, ◌≤◌, Bool, true, false, cond, eqb, ltb, leb, List, [], ◌∷◌, ◌++◌, length, sym, refl, ap, ◌∙◌, subst, mul-le-mul_right, arith, w64, Fits, rules, le-ltb, lt-ltb, le-leb, leb-true}
-use native.Mathlib.Decide.{dec_le}
 use lib.Bits.{bit_and}
 use lib.Count.{count_trailing_zeros}
-use borrow.Author.Tests.{lt-leb}
 use Rattle.answer.specs.declared.Refusal.{Refusal}
 use Rattle.answer.specs.declared.Refusal.TheVariants as why
 use Rattle.answer.specs.declared.Answer.{Answer}
@@ -24,10 +22,9 @@ use Rattle.relr_table.specs.Inner.{marks_of, full, between}
 use Rattle.relr_apply.specs.Inner.{wrapped, spots_of, Patchable, Runs, Filled, Spacious, Windows, Sized, Targeted, Aimed, Patched, End}
 use Rattle.relr_table.proofs.Marked.{all_left, all_right, marked_none}
 use Rattle.relr_table.proofs.PlaceNeeds.{one_mark}
-use Rattle.relr_table.proofs.Passed.{step_fits, step_less, space_most}
-use Rattle.relr_table.proofs.SetBits.{Next, Left, left_begin, left_end, left_head, left_next, next_zeros, next_full, full_none, far_small, run_bit, run_less, zeros_fit, zeros_far, zeros_less}
+use Rattle.relr_table.proofs.SetBits.{Next, Left, left_begin, left_end, left_head, left_next, next_zeros, next_full, full_none}
 use Rattle.relr_table.proofs.Steps.{marked_set, marked_clear}
-use Rattle.relr_table.proofs.Following.{Following, Followed, following_begin, following_load, following_end, follow_address, follow_bitmap}
+use Rattle.relr_table.proofs.Following.{Following, Followed, following_begin, following_end, follow_address, follow_bitmap}
 use Rattle.relr_table.proofs.Decoding.{decode_good, contained_space}
 use Rattle.relr_table.proofs.Applying.{patched_length, patched_append, patched_more, patched_one, targets_over, targets_in, targets_accepted}
 

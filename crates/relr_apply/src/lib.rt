@@ -169,8 +169,8 @@ fn patch_bitmap(k: Class, pace: Pace, image: &mut [u8], base: u64, first: u64, x
 }
 
 // The second pass, over a table that the first accepted, whose words all lie inside the image. The index of the word before *where* is kept, and
-// wraps: beyond the space no bitmap has a bit set. (It is put in line for each class, so that each has a loop of its own. By
-// `for` with a step that loop takes a fifth more instructions for an address.)
+// wraps: beyond the space no bitmap has a bit set. (It is put in line for each class, so that each has a loop of its own. By `for` with a step
+// that loop takes a fifth more instructions for an address.)
 #[inline(always)]
 fn patch(k: Class, pace: Pace, s: &[u8], base: u64, start: u64, image: &mut [u8])
     requires { Aimed k base pace s.now start image.old }
@@ -194,7 +194,7 @@ fn patch(k: Class, pace: Pace, s: &[u8], base: u64, start: u64, image: &mut [u8]
     }
 }
 
-// The same by the class as constants. (The window is taken from them, so that the compiler knows it in each loop.)
+// The same for a class that two flags name. (The window is worked out from them, so that the compiler knows it in each loop.)
 fn patch_by<const WIDE: bool, const BIG: bool>(
     pace: Pace,
     s: &[u8],
@@ -210,6 +210,7 @@ fn patch_by<const WIDE: bool, const BIG: bool>(
     patch(k, Pace { window, ..pace }, s, base, start, image);
 }
 
+// The same for any class.
 fn patch_class(k: Class, s: &[u8], base: u64, start: u64, image: &mut [u8])
     requires { Targeted k s.now start image.old }
     ensures { Patched k s.now base start image.old image.new }

@@ -15,7 +15,7 @@ use Rattle.relr_write.specs.declared.packer.Packed.TheVariants.{Joined, Flushed,
 use Rattle.relr_write.specs.Inner.{Near, falls_at, Located, LocatedAt, Small, ForwardFrom, words_for, Bits, Holding, Adds, Precedes, Acts, Packs, fault_of}
 use Rattle.relr_table.proofs.Marked.{falls_on, on_falls}
 use Rattle.relr_table.proofs.Steps.{falls_low, write_join, write_flush, write_word}
-use Rattle.relr_table.proofs.PlaceNeeds.{stands_inside, bitmap_in}
+use Rattle.relr_table.proofs.PlaceNeeds.{stands_inside}
 use Rattle.relr_table.proofs.Checked.{checked_more}
 use Rattle.answer.specs.declared.Refusal.{Refusal}
 use Rattle.answer.specs.declared.Refusal.TheVariants.{Order, Space, Odd}

@@ -11,7 +11,7 @@ use Rattle.answer.specs.declared.Answer.{Answer}
 use Rattle.answer.specs.declared.Refused.{Refused}
 use Rattle.answer.specs.Written.{Written}
 use Rattle.word.specs.declared.Class.{Class}
-use Rattle.word.specs.Class.{bytes_of, bits_of, window_of}
+use Rattle.word.specs.Class.{bytes_of, window_of}
 use Rattle.word.specs.Class.Laws.{bytes_least, bytes_most, class_is}
 use Rattle.word.specs.Word.Laws.{bytes_words_length, store_sets, bytes_words_none, bytes_words_one, bytes_words_append}
 use Rattle.word.specs.Word.{with_word, bytes_of_words}

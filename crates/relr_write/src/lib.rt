@@ -34,7 +34,8 @@ fn faulty(k: Class, x: u64, least: u64) -> Result<(), Refusal>
     Ok(())
 }
 
-// The first pass: how many bytes the table takes, or the first bad offset. Of a pending bitmap it keeps one bit, which is as many words.
+// The first pass: how many bytes the table takes, or the first bad offset. Of a pending bitmap it keeps one bit, which is as many words. (An
+// offset before which such a bitmap is flushed is looked at again, so the index stands then, and neither pass is a `for`.)
 fn size(k: Class, offsets: &[u64]) -> Result<u64, Refused>
     requires { length offsets.now ≤ list_limit }
     ensures { result ≡ found_of (build k offsets.now) }
@@ -75,7 +76,7 @@ fn size(k: Class, offsets: &[u64]) -> Result<u64, Refused>
     Ok((words + bits) * (k.bytes() as u64))
 }
 
-// The same by the size as a constant, so that the compiler makes a loop for each.
+// The same for a class whose size a flag names, so that the compiler makes a loop for each.
 fn size_by<const WIDE: bool>(order: ByteOrder, offsets: &[u64]) -> Result<u64, Refused>
     requires { length offsets.now ≤ list_limit }
     ensures { result ≡ found_of (build (class_in (flagged_size WIDE) order) offsets.now) }
@@ -155,7 +156,7 @@ fn put(k: Class, offsets: &[u64], table: &mut [u8]) -> Rest
     }
 }
 
-// The same by the class as constants, and for each class.
+// The same for a class that two flags name, so that the compiler makes a loop for each.
 fn put_by<const WIDE: bool, const BIG: bool>(offsets: &[u64], table: &mut [u8]) -> Rest
     requires { Encodable (flagged WIDE BIG) offsets.now table.old }
     ensures { Leaves (flagged WIDE BIG) offsets.now table.old result table.new }
@@ -163,6 +164,7 @@ fn put_by<const WIDE: bool, const BIG: bool>(offsets: &[u64], table: &mut [u8]) 
     put(place::chosen(WIDE, BIG), offsets, table)
 }
 
+// The same for any class.
 fn put_all(k: Class, offsets: &[u64], table: &mut [u8]) -> Rest
     requires { Encodable k offsets.now table.old }
     ensures { Leaves k offsets.now table.old result table.new }
