@@ -194,7 +194,7 @@ fn patch(k: Class, pace: Pace, s: &[u8], base: u64, start: u64, image: &mut [u8]
     }
 }
 
-// The same for a class that two flags name. (The window is worked out from them, so that the compiler knows it in each loop.)
+// The same for a class that two flags name, so that the compiler makes a loop for each.
 fn patch_by<const WIDE: bool, const BIG: bool>(
     pace: Pace,
     s: &[u8],
@@ -205,9 +205,7 @@ fn patch_by<const WIDE: bool, const BIG: bool>(
     requires { Aimed (flagged WIDE BIG) base pace s.now start image.old }
     ensures { Patched (flagged WIDE BIG) s.now base start image.old image.new }
 {
-    let k = place::chosen(WIDE, BIG);
-    let window = k.window() as u64;
-    patch(k, Pace { window, ..pace }, s, base, start, image);
+    patch(place::chosen(WIDE, BIG), pace, s, base, start, image);
 }
 
 // The same for any class.
