@@ -34,7 +34,7 @@ fn answer<T: Display>(rt: &impl Print, r: Result<(T, usize), Refused>) -> io::Re
     }
 }
 
-// The shortest form of x, and what it reads as strictly.
+// The shortest form of x, and what it reads as strictly. (The signed number goes by three other functions: what is the same is in `answer` and `text`.)
 fn unsigned(rt: &impl Print, x: u64) -> io::Result<()> {
     let mut room = [0u8; 16];
     if 16 < leb128::unsigned_len(x) {

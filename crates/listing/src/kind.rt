@@ -45,7 +45,7 @@ impl Kind {
     }
 }
 
-// The kind that the first line names: the whole line, to the byte.
+// The kind that the first line names: the whole line, to the byte. (A loop over the kinds would need them and their lines in a table, and says no more.)
 #[tactic(auto, unfolding(crate::specs::Text::first_line))]
 pub fn first_line(input: &[u8]) -> Option<Kind>
     ensures { result ≡ first_line input.now }

@@ -114,7 +114,7 @@ pub fn fits_signed(width: u32, x: i64) -> bool
     leb128::magnitude(x) < power(width - 1)
 }
 
-// Whether two signed numbers are one.
+// Whether two signed numbers are one, in the words of the definitions.
 pub fn equal(a: i64, b: i64) -> bool
     ensures { result ≡ same a b }
 {
