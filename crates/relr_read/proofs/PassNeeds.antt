@@ -86,7 +86,7 @@ module _ {k : Class} {old : List ℕ} {at anchor set : ℕ} (m : Markable k old 
         pub zeros_set : Filling k old at anchor set (stored column i (anchor + count_trailing_zeros 64 bits * c)) (bit_and bits (bits - 1)) (i + 1)
         zeros_set = rw ce (next_set zeros)
 
-pub ruleset markings = (filling_begin, filling_long, filling_in, filling_scaled, filling_next, zeros_fits, zeros_set, filling_end, zeros_fit, zeros_far, zeros_less, rules)
+pub ruleset markings = (filling_in, zeros_fits, zeros_set, filling_end, rules)
 
 -- where all bits are set: the first j are passed, and each is marked
 full_left : (k : Class) (anchor j : ℕ) → j ≤ window_of k → (p : List ℕ) × Left k anchor (full k) (2 ^ window_of k - 2 ^ j) p × (length p ≡ j)
@@ -139,7 +139,7 @@ module _ {k : Class} {old : List ℕ} {at anchor : ℕ} (m : Markable k old at a
             place = rw is (omega (arith, g.long));
           }
 
-pub ruleset runnings = (running_low, running_room, running_begin, running_set, running_end, rules)
+pub ruleset runnings = (running_room, running_set, running_end, rules)
 
 -- location by location
 pub record Spreading (k : Class) (n : ℕ) (old : List ℕ) (at anchor set : ℕ) (column : List ℕ) (i j : ℕ) : Type 0 where
@@ -229,7 +229,7 @@ module _ {k : Class} {n : ℕ} {old : List ℕ} {at anchor set : ℕ} (m : Ample
               go (suc zero) e = rw e (marks e)
               go (suc (suc d)) e = absurd (omega arith)
 
-pub ruleset spreadings = (spreading_begin, spreading_long, spreading_end, spreading_in, spreading_scaled, spreading_next, spreading_bit, spreading_far, spreading_set, run_bit, run_less, rules)
+pub ruleset spreadings = (spreading_end, spreading_set, rules)
 
 -- which it is
 laid : {n : ℕ} {old new l : List ℕ} {at next : ℕ} → at + length l ≤ n → n ≤ length old → Written old new at next l → Laid n old new at next l

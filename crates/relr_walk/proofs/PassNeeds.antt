@@ -13,7 +13,7 @@ use mir.Val.{Fits}
 use borrow.Author.Rules.{rules}
 use borrow.Author.Tests.{lt-ltb, le-ltb, le-leb}
 use Rattle.answer.specs.declared.Refusal.{Refusal}
-use Rattle.answer.specs.declared.Refusal.TheVariants.{Limit, Missing, Space, Outside}
+use Rattle.answer.specs.declared.Refusal.TheVariants.{Limit, Missing, Space}
 use Rattle.std.specs.Prelude.{Result, Ok, Err}
 use Rattle.answer.specs.declared.Refused.{Refused}
 use Rattle.answer.proofs.Limits.{input_most}
@@ -41,24 +41,8 @@ use Rattle.relr_table.proofs.Marked.{marked_most}
 use Rattle.relr_table.proofs.SetBits.{Next, Left, left_begin, left_end, left_head, left_next, left_more, next_zeros, zeros_fit, zeros_far, zeros_less}
 
 -- ---- counting
-module _ (first count : ℕ) {b : Bool} where
-  pub grow_in : b ≡ true → first ≡ grow first count b
-  grow_in e = rw e
-
-  pub grow_here : b ≡ false → count < first → count ≡ grow first count b
-  grow_here e l = rw (e, lt-ltb count first l)
-
-  pub grow_before : b ≡ false → first ≤ count → first ≡ grow first count b
-  grow_before e l = rw (e, le-ltb count first l)
-
-module _ {first count : ℕ} where
-  pub survey_all : count ≤ first → Ok count ≡ surveyed count first
-  survey_all h = rw (le-ltb first count h)
-
-  pub survey_not : first < count → Err (refused_at Outside first) ≡ surveyed count first
-  survey_not h = rw (lt-ltb first count h)
-
-pub ruleset counting = (grow_in, grow_here, grow_before, survey_all, survey_not, rules)
+pub survey_all : {first count : ℕ} → count ≤ first → Ok count ≡ surveyed count first
+survey_all {first} {count} h = rw (le-ltb first count h)
 
 -- ---- between two words
 pub scan_begin : {k : Class} {s : List ℕ} (low high : ℕ) → Whole k s → Scanned k s low high 0 Nowhere 0 none

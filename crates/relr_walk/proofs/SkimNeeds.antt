@@ -10,13 +10,13 @@ use lib.ListN.{length, length-append}
 use mir.Syntax.{w64}
 use mir.Val.{Fits}
 use borrow.Author.Rules.{rules}
-use borrow.Author.Tests.{lt-ltb, ltb-true, lt-leb, le-leb, leb-true}
+use borrow.Author.Tests.{lt-ltb, ltb-true, le-leb, leb-true}
 use lib.Dec.{leb, ltb, lit≤}
-use Rattle.std.specs.Prelude.{Option, Some, None}
+use Rattle.std.specs.Prelude.{Option, Some}
 use Rattle.answer.proofs.Limits.{input_most}
 use Rattle.word.specs.declared.Class.{Class}
 use Rattle.word.specs.Class.{bytes_of, window_of}
-use Rattle.word.specs.Class.Laws.{bytes_least, bytes_most, by_bytes, class_is}
+use Rattle.word.specs.Class.Laws.{bytes_least, bytes_most, by_bytes}
 use Rattle.word.specs.Word.{word_at}
 use Rattle.relr_table.specs.Words.{Where, marked}
 use Rattle.relr_table.specs.Table.{space_of, All}
@@ -34,12 +34,6 @@ use Rattle.relr_table.proofs.Passed.{all_fit, fit_one, standing_load, word_marke
 
 -- ---- the two ends
 module _ (low high x : ℕ) where
-  pub within_low : low ≤ x → ltb x high ≡ between low high x
-  within_low h = rw (le-leb low x h)
-
-  pub within_not : x < low → false ≡ between low high x
-  within_not h = rw (lt-leb low x h)
-
   -- the test, as a fact
   between_true : between low high x ≡ true → (low ≤ x) × (x < high)
   between_true e = go (leb low x) (ltb x high) refl refl e
@@ -51,38 +45,6 @@ module _ (low high x : ℕ) where
 
   true_between : low ≤ x → x < high → between low high x ≡ true
   true_between l h = rw (le-leb low x l) (lt-ltb x high h)
-
-pub ruleset ends = (within_low, within_not, rules)
-
--- ---- bitmaps that lie between them
-pub fence_none : (k : Class) (high : ℕ) → Fence k high 0
-fence_none k high u h = absurd (omega arith)
-
-module _ (k : Class) (high width last : ℕ) (e : width ≡ window_of k * bytes_of k) (g : last + bytes_of k ≡ space_of k) where
-  pub fence_last : last < high → Fence k high (last - width)
-  fence_last h u l = (omega arith, omega arith)
-
-  pub fence_high : high ≤ last → Fence k high (high - width)
-  fence_high h u l = (omega arith, omega arith)
-
-  pub fence_room : width ≤ last
-  fence_room =
-      by_bytes (λ (n : ℕ). width ≡ (8 * n - 1) * n → last + n ≡ 2 ^ (8 * n) → width ≤ last) (λ e g. omega arith) (λ e g. omega arith) k e g
-
-pub ruleset fences = (fence_none, fence_last, fence_high, fence_room, rules)
-
--- ---- addresses that do
-module _ (k : Class) (high last c : ℕ) (g : last + bytes_of k ≡ space_of k) (ce : c ≡ bytes_of k) where
-  pub top_last : last - c < high → Top k high (last - c)
-  top_last h x l = (omega arith, omega arith)
-
-  pub top_high : high ≤ last - c → Top k high high
-  top_high h x l = (omega arith, l)
-
-  pub top_room : c ≤ last
-  top_room = by_bytes (λ (n : ℕ). c ≡ n → last + n ≡ 2 ^ (8 * n) → c ≤ last) (λ e g. omega arith) (λ e g. omega arith) k ce g
-
-pub ruleset tops = (top_last, top_high, top_room, rules)
 
 -- ---- a bitmap's locations, counted
 pub ruleset tallies = (ones_are, ones_fit, rules)
@@ -143,17 +105,7 @@ module _ (k : Class) (low clear : ℕ) {b : Bool} where
       (bitmap_at k p (x / 2) x (omega arith) refl {r = r} (omega (arith, window_some k)) (omega (arith, window_some k)) h de (inside refl (omega arith)) w s)
       (tells (bytes_of k) (window_of k) p h) t
 
-  module _ (some : (high : ℕ) × Fence k high clear) (u : ℕ) (be : b ≡ between low clear u) (was : b ≡ true) where
-    pub step_word : {c : ℕ} → c ≡ bytes_of k → Fits w64 (u + c)
-    step_word ce = let (in_space, in-high) = some.1 u (between_true low clear u (sym be ∙ was)).1 in record { fits = omega (arith, window_some k, space_most k, bytes_least k) }
-
-    pub step_stride : {d : ℕ} → d ≡ window_of k * bytes_of k → Fits w64 (u + d)
-    step_stride de = let (in_space, in-high) = some.1 u (between_true low clear u (sym be ∙ was)).1 in record { fits = omega (arith, space_most k, bytes_least k) }
-
-pub step_stops : (k : Class) (low clear : ℕ) (p : Place) (x high : ℕ) → Fence k high clear → Steps k low high p x None
-step_stops k low clear p x high f = tt
-
-pub ruleset steps = (step_address, step_bitmap, step_word, step_stride, step_stops, half_fits, rules)
+pub ruleset steps = (step_address, step_bitmap, rules)
 
 -- ---- an address nearer to the end than a window
 module _ (k : Class) (low top clear : ℕ) {b : Bool} where
@@ -172,20 +124,7 @@ module _ (k : Class) (low top clear : ℕ) {b : Bool} where
         each = rw one (true_between low high x l in-high, tt);
       }
 
-  pub near_word : ((high : ℕ) × Top k high top × Fence k high clear) → (x : ℕ) {c : ℕ} → b ≡ between low top x → b ≡ true → c ≡ bytes_of k → Fits w64 (x + c)
-  near_word (high, t, f) x be was ce =
-      let (in_space, in-high) = t x (between_true low top x (sym be ∙ was)).1 in
-      record { fits = omega (arith, space_most k, bytes_least k) }
-
--- any other word
-module _ (k : Class) (low top clear : ℕ) where
-  pub near_other : (p x : ℕ) (r : Option Stepped) → ((high : ℕ) → Fence k high clear → Steps k low high p x r) → (high : ℕ) → Top k high top → Fence k high clear → Steps k low high p x r
-  near_other p x r o high t f = o high f
-
-  pub near_fence : ((high : ℕ) × Top k high top × Fence k high clear) → (high : ℕ) × Fence k high clear
-  near_fence (high, t, f) = (high, f)
-
-pub ruleset nears = (near_address, near_word, near_other, near_fence, rules)
+pub ruleset nears = (near_address, rules)
 
 -- the offsets passed are at most 64 for each word
 module _ {k : Class} {s : List ℕ} {low high at count first : ℕ} {p : Place} (h : Scanned k s low high at p count first) where
@@ -266,20 +205,3 @@ module _ {k : Class} {s : List ℕ} {low high : ℕ} {from : Passed} (a : Skimma
       many_on ce = further l e many ce
 
 pub ruleset skims = (skim_begin, skim_load, skim_end, one_sum, one_on, many_sum, many_on, step_fits, step_less, rules)
-
--- ---- one class by two names
-module _ {k j : Class} (e : k ≡ j) (s : List ℕ) (low high : ℕ) {from : Passed} where
-  pub skimmable_to : Skimmable k s low high from → Skimmable j s low high from
-  skimmable_to h = subst (λ (i : Class). Skimmable i s low high from) e h
-
-  pub skimmable_from : Skimmable j s low high from → Skimmable k s low high from
-  skimmable_from h = subst (λ (i : Class). Skimmable i s low high from) (sym e) h
-
-  module _ {r : Passed} where
-    pub skims_to : Skims k s low high from r → Skims j s low high from r
-    skims_to h = subst (λ (i : Class). Skims i s low high from r) e h
-
-    pub skims_from : Skims j s low high from r → Skims k s low high from r
-    skims_from h = subst (λ (i : Class). Skims i s low high from r) (sym e) h
-
-pub ruleset classes = (class_is, skimmable_to, skimmable_from, skims_to, skims_from, rules)

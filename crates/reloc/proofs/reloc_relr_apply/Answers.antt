@@ -1,9 +1,6 @@
 use Rattle.relr_table.specs.Contract.Laws.{orders}
 use Rattle.reloc.proofs.reloc_relr_apply.Goals as goal
 
-pub of-requires : goal.of-requires
-of-requires c = search orders
-
 pub apply-requires : goal.apply-requires
 apply-requires c = search orders
 

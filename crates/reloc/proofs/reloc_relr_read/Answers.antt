@@ -1,9 +1,6 @@
 use Rattle.relr_table.specs.Contract.Laws.{orders}
 use Rattle.reloc.proofs.reloc_relr_read.Goals as goal
 
-pub of-requires : goal.of-requires
-of-requires c = search orders
-
 pub read-requires : goal.read-requires
 read-requires c = search orders
 

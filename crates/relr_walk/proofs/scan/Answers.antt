@@ -1,4 +1,4 @@
-use Rattle.relr_walk.proofs.PassNeeds.{scans, scan_fetch, scan_less, scan_count, scan_one, scan_reach, scan_refused, scan_end, walk_begin, walk_count, walk_set, walk_far, walk_done}
+use Rattle.relr_walk.proofs.PassNeeds.{scans, scan_fetch, scan_count, scan_one, scan_reach, scan_refused, scan_end, walk_begin, walk_count, walk_set, walk_far, walk_done}
 use Rattle.relr_walk.proofs.scan.Goals as goal
 
 pub walk-init : goal.walk-init
@@ -25,9 +25,6 @@ overflow_add-count c = walk_count c.loop-bits.invariant c.loop-bits-test.true c.
 pub loop-bits-preserved : goal.loop-bits-preserved
 loop-bits-preserved c = walk_set c.loop-bits.invariant c.loop-bits-test.true _ c.last.ensures c.bytes-c.ensures c.requires.whole c.if-s-passed.false c.if-reach-d.false c.within-in-loop-bits.ensures c.grown-first-in-loop-bits.ensures
     (scan_reach c.walk.invariant c.pass-passed.ensures c.if-s-passed.false c.load.ensures.0 c.open.ensures c.in-Ok-Marks.is c.in-Ok-Marks.field-0-is c.last.result c.last.ensures)
-
-pub walk-smaller : goal.walk-smaller
-walk-smaller c = scan_less c.walk.invariant c.pass-passed.ensures c.if-s-passed.false c.bytes-c.ensures
 
 pub walk-preserved : goal.walk-preserved
 walk-preserved c = walk_done c.loop-bits.invariant c.bytes-c.ensures c.loop-bits-test.false
