@@ -129,19 +129,16 @@ module _ (k : Class) (p : Place) (x d j n : ℕ) (h : x + bytes_of k ≤ space_o
 -- the same as the code asks it
 module _ (k : Class) (p : Place) (x j n : ℕ) (h : x + bytes_of k ≤ space_of k) (xl : x < 2 ^ 64) (pl : p < 2 ^ 64) (tu : InWords k ((x + (18446744073709551616 - p)) % 18446744073709551616) j)
     (ne : n ≡ window_of k) where
-  unfoldable d : ℕ
+  abbrev d : ℕ
   d = (x + (18446744073709551616 - p)) % 18446744073709551616
 
   de : (d + p) % 2 ^ 64 ≡ x
-  unfolding d
   de = omega arith
 
   pub off_is : n ≤ j → LocatedAt k p x None
-  unfolding d
   off_is far = off_at k p x d j n h de tu ne (omega arith) pl far
 
   pub on_is : x % 2 ≡ 0 → Near p x → j < n → LocatedAt k p x (Some j)
-  unfolding d
   on_is even near on = on_at k p x d j n h de tu ne even near pl on
 
 -- ---- the next bitmap; r is the last offset of the space
