@@ -28,10 +28,10 @@ fn patch_marks(k: Class, image: &mut [u8], base: u64, first: u64, set: u64)
 {
     let mut bits = set;
     while bits != 0 {
-        let zeros = u64::trailing_zeros(bits) as u64;
-        let x = std::num::wrapping_add_u64(first, zeros * (k.bytes() as u64));
+        let zeros = bits.trailing_zeros() as u64;
+        let x = first.wrapping_add(zeros * (k.bytes() as u64));
         add_at(k, &mut *image, x as usize, base);
-        bits = bits & (bits - 1);
+        bits &= bits - 1;
     }
 }
 
@@ -41,7 +41,7 @@ fn patch_run(k: Class, n: u64, image: &mut [u8], base: u64, first: u64)
     ensures { image.new ≡ patched k base (spots_of k (full k) first) image.old }
 {
     for j in 0..n {
-        let x = std::num::wrapping_add_u64(first, j * (k.bytes() as u64));
+        let x = first.wrapping_add(j * (k.bytes() as u64));
         add_at(k, &mut *image, x as usize, base);
     }
 }
@@ -187,9 +187,9 @@ fn patch(k: Class, pace: Pace, s: &[u8], base: u64, start: u64, image: &mut [u8]
             behind = x - start;
             add_at(k, &mut *image, behind as usize, base);
         } else {
-            let first = std::num::wrapping_add_u64(behind, c as u64);
+            let first = behind.wrapping_add(c as u64);
             patch_bitmap(k, pace, &mut *image, base, first, x);
-            behind = std::num::wrapping_add_u64(behind, stride);
+            behind = behind.wrapping_add(stride);
         }
     }
 }

@@ -126,6 +126,21 @@ module _ (k : Class) (p : Place) (x d j n : ℕ) (h : x + bytes_of k ≤ space_o
         let y : x ≡ p + (x - p) / bytes_of k * bytes_of k = rw q (omega (arith, sum, steps)) in
         (p, stands_inside (in_space l) s, on_falls (bytes_of k) (window_of k) p x (omega (arith, bytes_least k)) ((x - p) / bytes_of k, rw q (omega arith), y), sym q)
 
+-- the same as the code asks it
+module _ (k : Class) (p : Place) (x j n : ℕ) (h : x + bytes_of k ≤ space_of k) (xl : x < 2 ^ 64) (pl : p < 2 ^ 64) (tu : InWords k ((x + (18446744073709551616 - p)) % 18446744073709551616) j)
+    (ne : n ≡ window_of k) where
+  abbrev d : ℕ
+  d = (x + (18446744073709551616 - p)) % 18446744073709551616
+
+  de : (d + p) % 2 ^ 64 ≡ x
+  de = omega arith
+
+  pub off_is : n ≤ j → LocatedAt k p x None
+  off_is far = off_at k p x d j n h de tu ne (omega arith) pl far
+
+  pub on_is : x % 2 ≡ 0 → Near p x → j < n → LocatedAt k p x (Some j)
+  on_is even near on = on_at k p x d j n h de tu ne even near pl on
+
 -- ---- the next bitmap; r is the last offset of the space
 module _ (k : Class) (p r : ℕ) (h : r + bytes_of k ≡ space_of k) where
   pub forward_far : r < p → ForwardFrom k p Beyond
@@ -265,6 +280,6 @@ located_on k p x f e w s = subst (Located k w x) e (f w s)
 pub located_off : (k : Class) (p : Place) (x : ℕ) {r : Option ℕ} → LocatedAt k p x r → r ≡ None → LocatedAt k p x None
 located_off k p x f e w s = subst (Located k w x) e (f w s)
 
-pub ruleset locating = (off_at, on_at, forward_far, forward_at, small_on, rules)
+pub ruleset locating = (off_is, on_is, forward_far, forward_at, small_on, rules)
 
 pub ruleset packing = (join_is, alone_is, flush_is, located_on, located_off, rules)

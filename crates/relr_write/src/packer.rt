@@ -35,7 +35,7 @@ fn locate(k: Class, place: u64, x: u64) -> Option<u64>
     requires { (x + bytes_of k ≤ space_of k) × (x % 2 ≡ 0) × Near place x }
     ensures { LocatedAt k place x result × Small result }
 {
-    let d = std::num::wrapping_sub_u64(x, place);
+    let d = x.wrapping_sub(place);
     let j = k.in_words(d);
     if j < k.window() as u64 {
         return Some(j);

@@ -1,3 +1,4 @@
+use Rattle.std.proofs.Common.{refl}
 use Rattle.relr_apply.proofs.PassNeeds.{workings, working_one, working_more, working_end}
 use Rattle.relr_apply.proofs.patch.Goals as goal
 
@@ -20,7 +21,7 @@ patch_bitmap-requires c = search workings
 pub loop-at-preserved : goal.loop-at-preserved
 loop-at-preserved c =
     working_more c.requires c.loop-at.invariant c.loop-at-test.true c.load-x.ensures.0 c.load-x.ensures.1 c.if-x-eq0.false c.bytes-c.ensures
-    c.wrapping_add_u64-first.ensures.value c.stride-stride.ensures c.wrapping_add_u64-behind.ensures.value c.patch_bitmap.ensures
+    refl c.stride-stride.ensures refl c.patch_bitmap.ensures
 
 pub returns : goal.returns
 returns c = working_end c.requires c.loop-at.invariant c.loop-at-test.false
