@@ -7,7 +7,7 @@ ghost use Rattle.answer.specs.Outcome.{found_of, input_limit};
 ghost use Rattle.answer.specs.Written.{Written};
 ghost use Rattle.records.specs.Reading.{records};
 ghost use Rattle.apr1_table.specs.Table.{last, run, step_at, parse, decode};
-ghost use Rattle.apr1_read.specs.Inner.{entry_step, head_at, body, Placed, Headed, Walkable, Runnable, Started, Fillable, Filled};
+ghost use Rattle.apr1_read.specs.Inner.{entry_step, head_at, Numbered, body, Placed, Headed, Walkable, Runnable, Started, Fillable, Filled};
 
 use answer::{Refusal, Refused};
 use apr1_table::LAST;
@@ -51,6 +51,16 @@ fn entry_at(strict: bool, s: &[u8], at: usize, x: u64) -> Result<Entry, Refused>
     })
 }
 
+// N and the place past it, and A and the place past it. (Both refusals leave a function of its own by one way: in `head_of` the compiler would
+// keep those at a place that it knows, behind the identifier, as data.)
+fn numbers_of(strict: bool, s: &[u8]) -> Result<(u64, usize, u64, usize), Refused>
+    ensures { Numbered strict s.now result }
+{
+    let (pairs, next) = leb128::read_unsigned(strict, s, 4, 32)?;
+    let (offset, start) = leb128::read_unsigned(strict, s, next, 32)?;
+    Ok((pairs, next, offset, start))
+}
+
 // The head of a table.
 fn head_of(strict: bool, s: &[u8]) -> Result<Head, Refused>
     ensures { (result ≡ head_at strict s.now) × Headed s.now result }
@@ -61,8 +71,7 @@ fn head_of(strict: bool, s: &[u8]) -> Result<Head, Refused>
             place: 0,
         });
     }
-    let (pairs, next) = leb128::read_unsigned(strict, s, 4, 32)?;
-    let (offset, start) = leb128::read_unsigned(strict, s, next, 32)?;
+    let (pairs, next, offset, start) = numbers_of(strict, s)?;
     if LAST < offset {
         return Err(Refused {
             why: Refusal::Space,

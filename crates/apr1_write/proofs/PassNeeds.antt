@@ -10,8 +10,10 @@ use lib.Seq.{sets, sets-eq, drop-cons}
 use mir.Syntax.{w64}
 use mir.Val.{Fits}
 use borrow.Author.Rules.{rules}
+use Rattle.std.specs.Prelude.{Result, Ok, Err}
 use Rattle.answer.specs.declared.Answer.{Answer}
 use Rattle.answer.specs.declared.Refusal.TheVariants.{Order, Space, Limit, Empty}
+use Rattle.answer.specs.declared.Refused.{Refused}
 use Rattle.answer.proofs.Limits.{list_small}
 use Rattle.answer.specs.Outcome.{Outcome, accepted, refused, success, refusal, no_room, list_limit, itself, found_of, err_at, Gives, filled}
 use Rattle.answer.specs.Outcome.Laws.{filled_self, found_accepted, gives_refused, gives_short, gives_full}
@@ -22,8 +24,6 @@ use Rattle.apr1_table.specs.Inner.{Run, head_in, pairs_in, table_in}
 use Rattle.apr1_write.specs.Inner.{Sizable, Sizes, Puttable, PairsPut, Encodable, TablePut, SizesIn}
 use Rattle.apr1_table.proofs.Pairs.{one_most, pair_bytes_none, pair_bytes_append, pair_bytes_more, head_most, table_bytes_law, checked_space, checked_order, checked_more, rising_rest, build_none, from_head, build_is, step_checked, step_rising, step_pairs}
 use Rattle.apr1_table.proofs.RoundTrip.{encode_over, encode_in, encode_accepts}
-use Rattle.std.specs.Prelude.{Result, Ok, Err}
-use Rattle.answer.specs.declared.Refused.{Refused}
 
 -- ---- the first pass
 pub record Sizing (l : List ℕ) (a i x n b : ℕ) : Type 0 where
