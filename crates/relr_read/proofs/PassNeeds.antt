@@ -20,9 +20,9 @@ use Rattle.word.specs.Class.Laws.{bytes_most, class_is}
 use Rattle.relr_table.specs.Inner.{marks_of, full}
 use Rattle.relr_read.specs.Inner.{Markable, Bounded, Ample, Laid, Fillable, Filled}
 use Rattle.relr_table.proofs.PlaceNeeds.{one_mark}
-use Rattle.relr_table.proofs.Passed.{among_long, step_fits, step_less}
-use Rattle.relr_table.proofs.Following.{Following, Followed, following_begin, following_load, following_end, follow_address, follow_bitmap, behind_on}
-use Rattle.relr_table.proofs.SetBits.{Next, Left, left_begin, left_end, left_next, left_more, left_fits, next_zeros, next_full, full_none, Through, through_begin, through_end, through_clear, through_set, through_fits, far_small, run_bit, run_less, zeros_fit, zeros_far, zeros_less}
+use Rattle.relr_table.proofs.Passed.{among_long}
+use Rattle.relr_table.proofs.Following.{Following, Followed, following_begin, following_end, follow_address, follow_bitmap, behind_on}
+use Rattle.relr_table.proofs.SetBits.{Next, Left, left_begin, left_end, left_next, left_more, left_fits, next_zeros, next_full, full_none, Through, through_end, through_clear, through_set, through_fits}
 use Rattle.relr_table.specs.Table.{space_of, decode}
 use Rattle.relr_table.proofs.Decoding.{decode_good}
 
@@ -34,9 +34,6 @@ pub record Filling (k : Class) (old : List ℕ) (at anchor set : ℕ) (column : 
   pub next : i ≡ at + length p
 
 module _ {k : Class} {old : List ℕ} {at anchor set : ℕ} (m : Markable k old at anchor set) where
-  pub filling_begin : Filling k old at anchor set old set at
-  filling_begin = record { p = []; left = left_begin k anchor set m.in_window; list = refl; next = omega arith }
-
   module _ {column : List ℕ} {bits i : ℕ} (g : Filling k old at anchor set column bits i) where
     pub filling_long : length column ≡ length old
     filling_long = ap length g.list ∙ length-sets old at g.p
@@ -48,12 +45,6 @@ module _ {k : Class} {old : List ℕ} {at anchor set : ℕ} (m : Markable k old 
     module _ {t rest : ℕ} (n : Next k anchor bits t rest) where
       next_in : i < length column
       next_in = omega (arith, filling_long, g.next, left_more g.left n, m.room)
-
-      next_scaled : length old * 8 < 2 ^ 63 → Fits w64 (i * 8)
-      next_scaled q = scaled_Fits i (length old) 8 (omega (arith, next_in, filling_long)) q
-
-      next_more : length old < 2 ^ 64 → Fits w64 (i + 1)
-      next_more q = record { fits = omega (arith, next_in, filling_long) }
 
       next_set : Filling k old at anchor set (stored column i (anchor + t * bytes_of k)) rest (i + 1)
       next_set =
@@ -72,12 +63,6 @@ module _ {k : Class} {old : List ℕ} {at anchor set : ℕ} (m : Markable k old 
 
       pub filling_in : i < length column
       filling_in = next_in zeros
-
-      pub filling_scaled : length old * 8 < 2 ^ 63 → Fits w64 (i * 8)
-      filling_scaled = next_scaled zeros
-
-      pub filling_next : length old < 2 ^ 64 → Fits w64 (i + 1)
-      filling_next = next_more zeros
 
       module _ {c : ℕ} (ce : c ≡ bytes_of k) where
         pub zeros_fits : Fits w64 (anchor + count_trailing_zeros 64 bits * c)
@@ -106,18 +91,12 @@ pub record Running (k : Class) (anchor : ℕ) (part : List ℕ) (x j : ℕ) : Ty
   pub left : Left k anchor (full k) (2 ^ window_of k - 2 ^ j) (take j part)
 
 module _ {k : Class} {old : List ℕ} {at anchor : ℕ} (m : Markable k old at anchor (full k)) where
-  pub running_low : length old * 8 < 2 ^ 63 → at < 2 ^ 63
-  running_low h = omega (arith, m.room)
-
   module _ {w : ℕ} (we : w ≡ window_of k) where
     pub running_room : at + w ≤ length old
     running_room = omega (arith, m.room, full_long k anchor)
 
     part_long : length (take (at + w - at) (drop at old)) ≡ w
     part_long = length-take-le (at + w - at) (drop at old) (simp length-drop (omega (arith, running_room))) ∙ omega arith
-
-    pub running_begin : anchor < 2 ^ 64 → Running k anchor (take (at + w - at) (drop at old)) anchor 0
-    running_begin h = record { long = part_long ∙ we; here = omega arith; left = left_begin k anchor (full k) m.in_window }
 
     module _ {part : List ℕ} {x j : ℕ} (g : Running k anchor part x j) where
       pub running_set : j < length (take (at + w - at) (drop at old)) → {c y : ℕ} → c ≡ bytes_of k → y ≡ (x + c) % 2 ^ 64 → Running k anchor (stored part j x) y (j + 1)
@@ -151,21 +130,7 @@ pub record Spreading (k : Class) (n : ℕ) (old : List ℕ) (at anchor set : ℕ
   pub long : length column ≡ length old
 
 module _ {k : Class} {n : ℕ} {old : List ℕ} {at anchor set : ℕ} (m : Ample k n old at anchor set) where
-  pub spreading_begin : Spreading k n old at anchor set old at 0
-  spreading_begin =
-      record {
-        p = [];
-        through = through_begin k anchor set;
-        next = omega arith;
-        held = sym (append-nil (take at old));
-        kept = refl;
-        long = refl;
-      }
-
   module _ {column : List ℕ} {i j : ℕ} (g : Spreading k n old at anchor set column i j) where
-    pub spreading_long : length column ≡ length old
-    spreading_long = g.long
-
     module _ {w : ℕ} (we : w ≡ window_of k) where
       pub spreading_end : w ≤ j → Laid n old column at i (marks_of k set anchor)
       spreading_end h =
@@ -181,18 +146,6 @@ module _ {k : Class} {n : ℕ} {old : List ℕ} {at anchor set : ℕ} (m : Ample
 
         pub spreading_in : i < length column
         spreading_in = omega (arith, before, g.long, m.bounded.room)
-
-        pub spreading_scaled : length old * 8 < 2 ^ 63 → Fits w64 (i * 8)
-        spreading_scaled q = scaled_Fits i (length old) 8 (omega (arith, spreading_in, g.long)) q
-
-        pub spreading_next : length old < 2 ^ 63 → Fits w64 (i + set / 2 ^ j % 2)
-        spreading_next q = record { fits = omega (arith, spreading_in, g.long) }
-
-        pub spreading_bit : j < 64
-        spreading_bit = omega (arith, less, bytes_most k)
-
-        pub spreading_far : {c : ℕ} → c ≡ bytes_of k → Fits w64 (j * c)
-        spreading_far = far_small k j less
 
         module _ {c x : ℕ} (ce : c ≡ bytes_of k) (xe : x ≡ (anchor + j * c) % 2 ^ 64) where
           clear : set / 2 ^ j % 2 ≡ 0 → Spreading k n old at anchor set (stored column i x) i (j + 1)
@@ -247,29 +200,14 @@ laid {n} {old} {new} {l} {at} {next} e h u =
     }
 
 module _ {k : Class} {n : ℕ} {old : List ℕ} {at anchor set : ℕ} (b : Bounded k n old at anchor set) where
-  pub bitmap_marks : Markable k old at anchor set
-  bitmap_marks = b.marks
-
   pub bitmap_marked : {new : List ℕ} {next : ℕ} → Written old new at next (marks_of k set anchor) → Laid n old new at next (marks_of k set anchor)
   bitmap_marked = laid b.end b.room
 
-  pub bitmap_sum : {w : ℕ} → w ≡ window_of k → length old * 8 < 2 ^ 63 → Fits w64 (at + w)
-  bitmap_sum we h = record { fits = omega (arith, b.end, b.room, bytes_most k) }
-
-  pub bitmap_ample : {w : ℕ} → w ≡ window_of k → at + w ≤ n → Ample k n old at anchor set
-  bitmap_ample we h = record { bounded = b; ample = omega arith }
-
   module _ {r : ℕ} (e : set ≡ r) (g : r ≡ full k) where
-    pub bitmap_run : Markable k old at anchor (full k)
-    bitmap_run = subst (λ (s : ℕ). Markable k old at anchor s) (e ∙ g) b.marks
-
     pub bitmap_ran : {new : List ℕ} {next : ℕ} → Written old new at next (marks_of k (full k) anchor) → Laid n old new at next (marks_of k set anchor)
     bitmap_ran {new} {next} u = bitmap_marked (subst (λ (s : ℕ). Written old new at next (marks_of k s anchor)) (sym (e ∙ g)) u)
 
-pub laid_long : {n : ℕ} {old new l : List ℕ} {at next : ℕ} → Laid n old new at next l → length new ≡ length old
-laid_long u = u.long
-
-pub ruleset bitmaps = (bitmap_marks, bitmap_marked, bitmap_sum, bitmap_ample, bitmap_run, bitmap_ran, laid_long, written_long, rules)
+pub ruleset bitmaps = (bitmap_marked, bitmap_ran, rules)
 
 -- ---- a table's words
 pub record Reading (k : Class) (s : List ℕ) (n : ℕ) (old : List ℕ) (at behind : ℕ) (column : List ℕ) (i : ℕ) : Type 0 where
@@ -285,9 +223,6 @@ module _ {k : Class} {s : List ℕ} {n : ℕ} {old : List ℕ} (f : Fillable k s
   reading_begin = record { list = []; following = following_begin k s _ f.good.whole; next = refl; held = refl; kept = refl; long = refl }
 
   module _ {at behind : ℕ} {column : List ℕ} {i : ℕ} (g : Reading k s n old at behind column i) where
-    pub reading_long : length column ≡ length old
-    reading_long = g.long
-
     pub reading_end : length s ≤ at → Filled k s old column
     reading_end h l e =
         let q : l ≡ g.list = cc (following_end g.following h) in
@@ -320,12 +255,6 @@ module _ {k : Class} {s : List ℕ} {n : ℕ} {old : List ℕ} (f : Fillable k s
         pub reading_in : i < length column
         reading_in = omega (arith, end alone, ap length (one_mark k x), g.long, f.room)
 
-        pub reading_scaled : length old * 8 < 2 ^ 63 → Fits w64 (i * 8)
-        reading_scaled b = scaled_Fits i (length old) 8 (omega (arith, reading_in, g.long)) b
-
-        pub reading_next : length old < 2 ^ 64 → Fits w64 (i + 1)
-        reading_next b = record { fits = omega (arith, reading_in, g.long) }
-
         pub reading_one : {c : ℕ} → c ≡ bytes_of k → Reading k s n old (at + c) x (stored column i x) (i + 1)
         reading_one ce =
             let m = one_mark k x in
@@ -357,28 +286,13 @@ pub reading_more : {k : Class} {s : List ℕ} {n : ℕ} {old : List ℕ} {at beh
     → (x % 2 ≡ 0 → ⊥) → c ≡ bytes_of k → d ≡ window_of k * bytes_of k → Reading k s n old (at + c) b new r
 reading_more u ae be e g f l small odd ce de = more_of f g l e small odd ce ae de be u
 
-module _ {k : Class} {s : List ℕ} {n : ℕ} {old : List ℕ} {at behind : ℕ} {column : List ℕ} {i : ℕ} (g : Reading k s n old at behind column i) where
-  pub reading_load : at < length s → at + bytes_of k ≤ length s
-  reading_load l = following_load g.following l
-
-pub ruleset readings = (reading_begin, reading_long, reading_end, reading_in, reading_scaled, reading_next, reading_one, reading_marks, reading_more, reading_load, step_fits, step_less, laid_long, rules)
+pub ruleset readings = (reading_begin, reading_end, reading_in, reading_one, reading_marks, reading_more, rules)
 
 -- ---- one class by two names
-module _ {k j : Class} (e : k ≡ j) (s : List ℕ) (n : ℕ) (old : List ℕ) where
-  pub fillable_to : Fillable k s n old → Fillable j s n old
-  fillable_to h = subst (λ (i : Class). Fillable i s n old) e h
+pub fillable_to : {k j : Class} → k ≡ j → (s : List ℕ) (n : ℕ) (old : List ℕ) → Fillable k s n old → Fillable j s n old
+fillable_to e s n old h = subst (λ (i : Class). Fillable i s n old) e h
 
-  pub fillable_from : Fillable j s n old → Fillable k s n old
-  fillable_from h = subst (λ (i : Class). Fillable i s n old) (sym e) h
-
-  module _ {new : List ℕ} where
-    pub filled_to : Filled k s old new → Filled j s old new
-    filled_to h = subst (λ (i : Class). Filled i s old new) e h
-
-    pub filled_from : Filled j s old new → Filled k s old new
-    filled_from h = subst (λ (i : Class). Filled i s old new) (sym e) h
-
-pub ruleset classes = (class_is, fillable_to, fillable_from, filled_to, filled_from, rules)
+pub ruleset classes = (class_is, fillable_to, rules)
 
 -- ---- a read for a class: f is what the first pass found
 module _ (k : Class) (s old : List ℕ) {f : Result ℕ Refused} (is : f ≡ found_of (decode k s)) {n : ℕ} (e : f ≡ Ok n) (fits : n ≤ length old) where

@@ -48,10 +48,10 @@ survey_all {first} {count} h = rw (le-ltb first count h)
 pub scan_begin : {k : Class} {s : List ℕ} (low high : ℕ) → Whole k s → Scanned k s low high 0 Nowhere 0 none
 scan_begin {k} {s} low high h = record { list = []; standing = standing_begin k s h; counted = refl; lead = leads_begin (between low high); few = omega arith }
 
-pub scan_from : {k : Class} {s : List ℕ} {low high : ℕ} {p : Passed} → Begun k s low high p → ScannedTo k s low high p none
+pub scan_from : {k : Class} {s : List ℕ} {low high at count : ℕ} {p : Place} → Begun k s low high at p count → Scanned k s low high at p count none
 scan_from b = b.skimmed.on none (scan_begin _ _ b.whole)
 
-pub scan_whole : {k : Class} {s : List ℕ} {low high : ℕ} {p : Passed} → Begun k s low high p → Whole k s
+pub scan_whole : {k : Class} {s : List ℕ} {low high at count : ℕ} {p : Place} → Begun k s low high at p count → Whole k s
 scan_whole b = b.whole
 
 pub skim_allowed : {k : Class} {s : List ℕ} {low high at count first : ℕ} {p : Place} → Whole k s → Scanned k s low high at p count first
@@ -209,7 +209,7 @@ module _ (k : Class) (s : List ℕ) (low high : ℕ) where
       p : Skims k s low high origin q
       p = subst (λ (b : Passed). Skims k s low high b q) o u
 
-      pub find_rest : Begun k s low high q
+      pub find_rest : Begun k s low high q.at q.place q.count
       find_rest = record { whole = whole; skimmed = p }
 
       pub find_all : length s ≤ q.at → Ok q.count ≡ found_of (contained (between low high) (decode k s))
