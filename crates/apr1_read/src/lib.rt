@@ -7,7 +7,7 @@ ghost use Rattle.answer.specs.Outcome.{found_of, input_limit};
 ghost use Rattle.answer.specs.Written.{Written};
 ghost use Rattle.records.specs.Reading.{records};
 ghost use Rattle.apr1_table.specs.Table.{last, run, step_at, parse, decode};
-ghost use Rattle.apr1_read.specs.Inner.{entry_step, head_at, Numbered, body, Placed, Headed, Walkable, Runnable, Started, Fillable, Filled};
+ghost use Rattle.apr1_read.specs.Inner.{entry_step, head_at, Numbered, listed, Placed, Headed, Walkable, Runnable, Started, Fillable, Filled};
 
 use answer::{Refusal, Refused};
 use apr1_table::LAST;
@@ -88,7 +88,7 @@ fn head_of(strict: bool, s: &[u8]) -> Result<Head, Refused>
 // The first pass over the pairs behind a head: how many offsets, or the refusal. No pair is expanded.
 fn walk(strict: bool, s: &[u8], head: Head) -> Result<u64, Refused>
     requires { Walkable s.now head.offset head.start }
-    ensures { result ≡ found_of (body strict s.now head.pairs head.offset head.start) }
+    ensures { result ≡ found_of (listed strict s.now head) }
 {
     let mut at = head.start;
     let mut x = head.offset;
@@ -146,8 +146,8 @@ fn fill_run(column: &mut [u64], from: usize, x: u64, c: u64, d: u64) -> usize
 
 // The second pass over pairs that the first accepted, behind the first offset: none is tested again.
 fn store_pairs(s: &[u8], head: Head, column: &mut [u64])
-    requires { Fillable (body false s.now head.pairs head.offset head.start) column.old × Walkable s.now head.offset head.start × Started head.offset column.old }
-    ensures { Filled (body false s.now head.pairs head.offset head.start) column.old column.new }
+    requires { Fillable (listed false s.now head) column.old × Walkable s.now head.offset head.start × Started head.offset column.old }
+    ensures { Filled (listed false s.now head) column.old column.new }
 {
     let mut from = head.start;
     let mut x = head.offset;
@@ -167,8 +167,8 @@ fn store_pairs(s: &[u8], head: Head, column: &mut [u64])
 
 // The first offset, and those of the pairs.
 fn store(s: &[u8], head: Head, column: &mut [u64])
-    requires { Fillable (body false s.now head.pairs head.offset head.start) column.old × Walkable s.now head.offset head.start }
-    ensures { Filled (body false s.now head.pairs head.offset head.start) column.old column.new }
+    requires { Fillable (listed false s.now head) column.old × Walkable s.now head.offset head.start }
+    ensures { Filled (listed false s.now head) column.old column.new }
 {
     column[0] = head.offset;
     store_pairs(s, head, column);
