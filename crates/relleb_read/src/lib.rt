@@ -2,8 +2,7 @@
 // table that the first accepted strictly too, that is the same list. The width is the class's.
 #![tactic(auto)]
 
-ghost use Rattle.std.specs.Prelude.{◌≡◌, false, ◌^◌, ◌<◌, length};
-ghost use Rattle.std.specs.Int.Signed.{mag};
+ghost use Rattle.std.specs.Prelude.{◌≡◌, false, length};
 ghost use Rattle.answer.specs.Outcome.{found_of};
 ghost use Rattle.leb128.specs.Number.{IsWidth, read_signed};
 ghost use Rattle.records.specs.Reading.{records};
@@ -45,24 +44,13 @@ fn with_addend(s: &[u8], at: usize, width: u32, now: State, symbol: u32) -> Resu
     })
 }
 
-// The symbol of a symbol field.
-fn symbol_in(field: i64) -> u32
-    requires { mag field < 2 ^ 32 }
-    ensures { result ≡ mag field }
-{
-    if field < 0 {
-        return (-1 - field) as u32;
-    }
-    field as u32
-}
-
 // The record whose symbol field stands at a place.
 fn with_symbol(s: &[u8], at: usize, width: u32, now: State) -> Result<Entry, Refused>
     requires { IsWidth width }
     ensures { entry_step result ≡ with_symbol false width s.now now.addend now.offset now.kind (read_signed false 33 s.now at) }
 {
     let (field, past) = leb128::read_signed(false, s, at, 33)?;
-    let symbol = symbol_in(field);
+    let symbol = leb128::magnitude(field) as u32;
     if leb128::is_negative(field) {
         return with_addend(s, past, width, now, symbol);
     }
