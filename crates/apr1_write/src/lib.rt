@@ -132,7 +132,7 @@ pub fn measure(offsets: &[u64]) -> Result<Need, Refused>
     size(offsets)
 }
 
-// The pairs' bytes from a place on.
+// The pairs' bytes from a place on. (Both passes go from run to run, so the index moves by a run's length.)
 fn put_pairs(offsets: &[u64], table: &mut [u8], first: usize)
     requires { Puttable offsets.now table.old first }
     ensures { PairsPut offsets.now table.old table.new first }

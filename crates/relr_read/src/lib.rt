@@ -86,7 +86,7 @@ fn fill_bitmap(
 }
 
 // The second pass, over a table of so many offsets that the first accepted. The location a word before *where* is kept, and wraps: beyond the
-// space no bitmap has a bit set.
+// space no bitmap has a bit set. (The step is the class's. In relr_apply such a loop by `for` with a step takes a fifth more instructions.)
 fn fill(k: Class, s: &[u8], count: usize, column: &mut [u64])
     requires { Fillable k s.now count column.old }
     ensures { Filled k s.now column.old column.new }

@@ -107,7 +107,8 @@ pub fn begin() -> Passed
     }
 }
 
-// Passes the words from here on that lie between the two ends: a comparison with each end for a word, none for a bit.
+// Passes the words from here on that lie between the two ends: a comparison with each end for a word, none for a bit. (The place of the word at which it
+// stops is an answer, so the loop goes by it.)
 pub fn pass(k: Class, s: &[u8], low: u64, high: u64, from: Passed) -> Passed
     requires { Skimmable k s.now low high from }
     ensures { Skims k s.now low high from result }
