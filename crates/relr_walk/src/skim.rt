@@ -8,7 +8,7 @@ ghost use Rattle.relr_walk.specs.Inner.{Top, Fence, Steps, Skimmable, Skims, ori
 use relr_table::place;
 use word::{ByteOrder, Class, Size};
 
-// Whether x is `low` or more, and less than `high`.
+// Whether x is `low` or more, and less than `high`, in the words of the definitions.
 pub fn within(low: u64, high: u64, x: u64) -> bool
     ensures { result ≡ between low high x }
 {
