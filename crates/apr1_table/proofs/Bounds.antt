@@ -41,14 +41,14 @@ module _ (strict : Bool) (s : List ℕ) where
   -- a pair has at least two bytes
   second_moves : (at x c next : ℕ) → at < next → (u : Unsigned) → read_unsigned strict 32 s next ≡ u → Moves 2 (length s) at (second_of at x c u)
   unfolding second_of
-  second_moves at x c next h (Ok (d , past)) e =
+  second_moves at x c next h (Ok (d, past)) e =
       let v = unsigned_value strict 32 s next d past e in
       of_cond (Moves 2 (length s) at) (inside x c d) (one (pair c d) past (reach x (pair c d))) (none Space at) (omega (arith, v.1), v.2) tt
   second_moves at x c next h (Err bad) e = tt
 
   first_moves : (at x : ℕ) (u : Unsigned) → read_unsigned strict 32 s at ≡ u → Moves 2 (length s) at (first_of strict s at x u)
   unfolding first_of
-  first_moves at x (Ok (c , next)) e = second_moves at x c next (unsigned_value strict 32 s at c next e).1 (read_unsigned strict 32 s next) refl
+  first_moves at x (Ok (c, next)) e = second_moves at x c next (unsigned_value strict 32 s at c next e).1 (read_unsigned strict 32 s next) refl
   first_moves at x (Err bad) e = tt
 
   moves : (at x : ℕ) → Moves 2 (length s) at (step_at strict s at x)
@@ -57,12 +57,12 @@ module _ (strict : Bool) (s : List ℕ) where
 
   second_few : (at x c : ℕ) → c < 2 ^ 32 → (u : Unsigned) → Yields Few (second_of at x c u)
   unfolding second_of
-  second_few at x c h (Ok (d , past)) = of_cond (Yields Few) (inside x c d) (one (pair c d) past (reach x (pair c d))) (none Space at) h tt
+  second_few at x c h (Ok (d, past)) = of_cond (Yields Few) (inside x c d) (one (pair c d) past (reach x (pair c d))) (none Space at) h tt
   second_few at x c h (Err e) = tt
 
   first_few : (at x : ℕ) (u : Unsigned) → read_unsigned strict 32 s at ≡ u → Yields Few (first_of strict s at x u)
   unfolding first_of
-  first_few at x (Ok (c , next)) e = second_few at x c (unsigned_value strict 32 s at c next e).0 (read_unsigned strict 32 s next)
+  first_few at x (Ok (c, next)) e = second_few at x c (unsigned_value strict 32 s at c next e).0 (read_unsigned strict 32 s next)
   first_few at x (Err bad) e = tt
 
   few : (at x : ℕ) → Yields Few (step_at strict s at x)
@@ -88,14 +88,14 @@ module _ (strict : Bool) (s : List ℕ) where
 
     from_first : (n at : ℕ) (u : Unsigned) → read_unsigned strict 32 s at ≡ u → OfList Long (with_first strict s n at u)
     unfolding with_first
-    from_first n at (Ok (a , past)) e =
+    from_first n at (Ok (a, past)) e =
         let rest = records (step_at strict s) (length s) n past a in
         of_cond (OfList Long) (leb a last) (joined a rest) (refused Space at) (joins a rest (pairs_most (length s) n past a (unsigned_value strict 32 s at a past e).2)) tt
     from_first n at (Err x) e = tt
 
     from_count : (u : Unsigned) → OfList Long (with_count strict s u)
     unfolding with_count
-    from_count (Ok (n , next)) = from_first n next (read_unsigned strict 32 s next) refl
+    from_count (Ok (n, next)) = from_first n next (read_unsigned strict 32 s next) refl
     from_count (Err e) = tt
 
     most : OfList Long (parse strict s)

@@ -21,12 +21,12 @@ module _ (P : Said) (strict : Bool) (s : List ℕ) (named : P Identifier 0) (num
     (space : (at v next : ℕ) → read_unsigned strict 32 s at ≡ ok_at v next → P Space at) (over : (at : ℕ) → at < length s → P Trailing at) where
   second : (at x c : ℕ) (u : Unsigned) → P Space at → OfUnsigned P u → OfStep P (second_of at x c u)
   unfolding second_of
-  second at x c (Ok (d , past)) k h = of_cond (OfStep P) (inside x c d) (one (pair c d) past (reach x (pair c d))) (none Space at) tt k
+  second at x c (Ok (d, past)) k h = of_cond (OfStep P) (inside x c d) (one (pair c d) past (reach x (pair c d))) (none Space at) tt k
   second at x c (Err e) k h = h
 
   first : (at x : ℕ) (u : Unsigned) → read_unsigned strict 32 s at ≡ u → OfUnsigned P u → OfStep P (first_of strict s at x u)
   unfolding first_of
-  first at x (Ok (c , next)) e h = second at x c (read_unsigned strict 32 s next) (space at c next e) (number next)
+  first at x (Ok (c, next)) e h = second at x c (read_unsigned strict 32 s next) (space at c next e) (number next)
   first at x (Err bad) e h = h
 
   step : (at x : ℕ) → OfStep P (step_at strict s at x)
@@ -40,14 +40,14 @@ module _ (P : Said) (strict : Bool) (s : List ℕ) (named : P Identifier 0) (num
 
   from_first : (n at : ℕ) (u : Unsigned) → read_unsigned strict 32 s at ≡ u → OfUnsigned P u → OfOutcome P (with_first strict s n at u)
   unfolding with_first
-  from_first n at (Ok (a , past)) e h =
+  from_first n at (Ok (a, past)) e h =
       let rest = records (step_at strict s) (length s) n past a in
       of_cond (OfOutcome P) (leb a last) (joined a rest) (refused Space at) (joins a rest (of_records P (step_at strict s) (length s) step over n past a)) (space at a past e)
   from_first n at (Err x) e h = h
 
   from_count : (u : Unsigned) → OfUnsigned P u → OfOutcome P (with_count strict s u)
   unfolding with_count
-  from_count (Ok (n , next)) h = from_first n next (read_unsigned strict 32 s next) refl (number next)
+  from_count (Ok (n, next)) h = from_first n next (read_unsigned strict 32 s next) refl (number next)
   from_count (Err e) h = h
 
   pub of_parse : OfOutcome P (parse strict s)

@@ -30,7 +30,7 @@ module _ (strict : Bool) (s : List ℕ) where
 
   first : (at x : ℕ) (u : Unsigned) → Unless none (Spelled s) (first_of strict s at x u) (first_of false s at x u)
   unfolding first_of second_of
-  first at x (Ok (c , next)) =
+  first at x (Ok (c, next)) =
       unless_then err_at none (Spelled s) (second_of at x c) (second_of at x c) (λ why p. refl) (λ u. same refl) (read_unsigned strict 32 s next) (read_unsigned false 32 s next) (number next)
   first at x (Err e) = same refl
 
@@ -41,7 +41,7 @@ module _ (strict : Bool) (s : List ℕ) where
 
   with_first_law : (n at : ℕ) (u : Unsigned) → Unless refused (Spelled s) (with_first strict s n at u) (with_first false s n at u)
   unfolding with_first joined
-  with_first_law n at (Ok (a , past)) =
+  with_first_law n at (Ok (a, past)) =
       let rest = records (step_at strict s) (length s) n past a in
       let lax = records (step_at false s) (length s) n past a in
       unless_cond refused (Spelled s) (leb a last) (joined a rest) (joined a lax) (refused Space at)
@@ -50,7 +50,7 @@ module _ (strict : Bool) (s : List ℕ) where
 
   with_count_law : (u : Unsigned) → Unless refused (Spelled s) (with_count strict s u) (with_count false s u)
   unfolding with_count with_first
-  with_count_law (Ok (n , next)) =
+  with_count_law (Ok (n, next)) =
       unless_then err_at refused (Spelled s) (with_first strict s n next) (with_first false s n next) (λ why p. refl) (with_first_law n next)
       (read_unsigned strict 32 s next) (read_unsigned false 32 s next) (number next)
   with_count_law (Err e) = same refl
