@@ -1,7 +1,7 @@
 -- A reader and a writer above `leb128`, by its laws alone: nothing of its definitions is unfolded here.
 -- Assumes nothing.
 use Prim.Native.Nat.{ℕ, ◌+◌, ◌≤◌}
-use mathlib.Core.Path.{◌≡◌, ap, sym, ◌∙◌}
+use mathlib.Core.Path.{◌≡◌, sym, ◌∙◌}
 use mathlib.Core.Bool.{false}
 use mathlib.Core.List.{List, ◌++◌}
 use native.Mathlib.Omega.{arith}
@@ -10,13 +10,10 @@ use lib.ListN.{length, length-append}
 use mir.Syntax.{w32, w64}
 use mir.Val.{Fits, to_z, of_z}
 use borrow.Author.Rules.{rules}
-use Rattle.answer.specs.declared.Refusal.{Refusal}
 use Rattle.answer.specs.Written.{Written, written_then}
 use Rattle.leb128.specs.Number.{read_unsigned, short_unsigned, short_signed}
 use Rattle.leb128.proofs.Setting.{unsigned_value}
 use Rattle.cases.specs.U32.{read_u32}
-use Rattle.answer.specs.declared.Refused.{Refused}
-use Rattle.answer.specs.Outcome.{err_at}
 use Rattle.leb128.specs.Number.{Unsigned, ok_at}
 
 module _ (s : List ℕ) (at : ℕ) {r : Unsigned} (e : r ≡ read_unsigned false 32 s at) where

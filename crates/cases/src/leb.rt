@@ -27,7 +27,7 @@ fn write_pair(out: &mut [u8], at: usize, x: u64, y: i64) -> usize
 }
 
 // What was read with the next place, or the refusal.
-fn answer<T: Display>(rt: &impl Print, r: Result<(T, usize), Refused>) -> io::Result<()> {
+fn answer<T: Display + Copy>(rt: &impl Print, r: Result<(T, usize), Refused>) -> io::Result<()> {
     match r {
         Ok((v, next)) => println!(rt; " = {v} next {next}"),
         Err(refused) => text::refusal(rt, refused),
