@@ -69,8 +69,8 @@ fn count_at(strict: bool, s: &[u8]) -> Result<(u64, usize), Refused>
     Ok((leb128::magnitude(n), first))
 }
 
-// The identifier and the count. A negative count is refused before a padded one. (It is put in line: on its own the compiler would keep the refusals at
-// places that it knows as data.)
+// The identifier and the count. A negative count is refused before a padded one. (It is put in line: as a function of
+// its own it would have the refusals at places that the compiler knows as data.)
 #[inline(always)]
 fn head_of(strict: bool, s: &[u8]) -> Result<(u64, usize), Refused>
     ensures { result ≡ head_at strict s.now }

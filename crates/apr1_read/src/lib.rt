@@ -51,8 +51,8 @@ fn entry_at(strict: bool, s: &[u8], at: usize, x: u64) -> Result<Entry, Refused>
     })
 }
 
-// N and the place past it, and A and the place past it. (Both refusals leave a function of its own by one way: in `head_of` the compiler would
-// keep those at a place that it knows, behind the identifier, as data.)
+// N and the place past it, and A and the place past it. (It is a function of its own so that both refusals leave by one way: in `head_of` the compiler would
+// keep them as data, since it knows their places.)
 fn numbers_of(strict: bool, s: &[u8]) -> Result<(u64, usize, u64, usize), Refused>
     ensures { Numbered strict s.now result }
 {

@@ -70,7 +70,7 @@ fn put_head(table: &mut [u8], n: u64, a: u64) -> usize
     put_pair(table, at, n, a)
 }
 
-// The first pass, over a list that is neither empty nor too long: the pairs and the bytes, or the first bad offset.
+// The first pass, over a list that is neither empty nor too long, from run to run: the pairs and the bytes, or the first bad offset.
 fn size(offsets: &[u64]) -> Result<Need, Refused>
     requires { Sizable offsets.now }
     ensures { SizesIn offsets.now result }

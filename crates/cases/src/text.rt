@@ -7,10 +7,6 @@ pub fn put(rt: &impl Print, s: &[u8]) -> io::Result<()> {
     io::writer(rt).write_all(s)
 }
 
-pub fn number(rt: &impl Print, x: u64) -> io::Result<()> {
-    print!(rt; "{x}")
-}
-
 // A number behind a space.
 pub fn item(rt: &impl Print, x: u64) -> io::Result<()> {
     print!(rt; " {x}")

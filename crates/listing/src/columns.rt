@@ -39,7 +39,7 @@ impl Columns {
         }
     }
 
-    // The records of a table, read laxly.
+    // The records of a table, read laxly. (Each kind's call takes other columns, so this is a match.)
     pub fn read(&mut self, kind: Kind, table: &[u8]) -> Answer
         ensures { Reads kind table.now result self.new }
     {

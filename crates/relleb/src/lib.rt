@@ -1,4 +1,5 @@
-// RELLEB, the packed table of whole relocation records: a count, and for each record its differences to the one before it.
+// RELLEB, the packed table of whole relocation records: a count, and for each record its differences to the one before it. (The class comes as a number, and the
+// columns are lent one by one, as document 01 and C have it.)
 #![tactic(auto)]
 
 ghost use Rattle.std.specs.Prelude.{◌≡◌};

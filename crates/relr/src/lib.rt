@@ -1,4 +1,4 @@
-// RELR tables: read, written and applied.
+// RELR tables: read, written and applied. (The class comes as a number, as document 01 and C have it.)
 #![tactic(auto)]
 
 ghost use Rattle.relr_table.specs.Contract.{Reads, Writes, Applies};

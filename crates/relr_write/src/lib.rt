@@ -35,7 +35,7 @@ fn faulty(k: Class, x: u64, least: u64) -> Result<(), Refusal>
 }
 
 // The first pass: how many bytes the table takes, or the first bad offset. Of a pending bitmap it keeps one bit, which is as many words. (An
-// offset before which such a bitmap is flushed is looked at again, so the index stands then, and neither pass is a `for`.)
+// offset before which such a bitmap is flushed is looked at again, so the index does not move then, and neither pass is a `for`.)
 fn size(k: Class, offsets: &[u64]) -> Result<u64, Refused>
     requires { length offsets.now ≤ list_limit }
     ensures { result ≡ found_of (build k offsets.now) }
@@ -120,7 +120,7 @@ pub struct Rest {
     pub bits: u64,
 }
 
-// The second pass, over a list that the first accepted, up to the bitmap that is pending at the end.
+// The second pass, over a list that the first accepted, up to the bitmap that is pending at the end. (Its index moves as the first's does.)
 fn put(k: Class, offsets: &[u64], table: &mut [u8]) -> Rest
     requires { Encodable k offsets.now table.old }
     ensures { Leaves k offsets.now table.old result table.new }

@@ -35,7 +35,7 @@ enum Call {
     RellebWrite,
 }
 
-// By the corpus's code; every code that it does not have is RELLEB's write.
+// By the corpus's code; every other is RELLEB's write.
 impl From<u8> for Call {
     fn from(code: u8) -> Call {
         match code {
@@ -52,7 +52,7 @@ impl From<u8> for Call {
     }
 }
 
-// Runs the next case, and tells whether there was one.
+// Runs the next case, and tells whether there was one. (Each call takes other arguments, so this and the next two go by a match.)
 pub fn run<R: Read>(rt: &impl Print, reader: &mut R) -> io::Result<bool> {
     let mut code = [0u8; 1];
     if !input::bytes(reader, &mut code)? {

@@ -6,7 +6,7 @@ use std::io;
 use std::io::Read;
 use word::ByteOrder;
 
-// The byte order that is high byte first, and the setting that is strict.
+// The byte of the corpus for the order that is high byte first, and that for the setting that is strict.
 const BIG: u8 = 1;
 
 const STRICT: u8 = 1;

@@ -7,6 +7,8 @@ use lib.ListN.{drop, get_or}
 use lib.Pow.{pow_mono}
 use Rattle.leb128.specs.Number.{raw}
 use Rattle.leb128.proofs.Reading.{onto, onto_none, low_more, at_end, at_last, shl_is, turned, no_more}
+use Rattle.answer.specs.declared.Refusal.TheVariants.{Width}
+use Rattle.answer.specs.Outcome.{refused_at}
 use Rattle.leb128.proofs.scan.Goals as goal
 
 pub loop-i-init : goal.loop-i-init
@@ -32,7 +34,7 @@ pub returns-then-last-j : goal.returns-then-last-j
 returns-then-last-j c =
     let l = c.loop-i in
     let p : l.i ≡ c.args.at + c.args.last = omega (arith, l.invariant.0, l.invariant.1, c.if-last-j.true) in
-    inr (no_more _ _ _ _ _ _ l.invariant.3 (c.type_inv.s l.i).fits c.if-b-lt128.false c.if-s-i.false l.invariant.1 c.if-last-j.true, rw p)
+    inr (no_more _ _ _ _ _ _ l.invariant.3 (c.type_inv.s l.i).fits c.if-b-lt128.false c.if-s-i.false l.invariant.1 c.if-last-j.true, ap (refused_at Width) p)
 
 pub overflow_add-low : goal.overflow_add-low
 overflow_add-low c =
