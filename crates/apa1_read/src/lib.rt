@@ -91,7 +91,9 @@ fn head_of(strict: bool, s: &[u8]) -> Result<(u64, usize), Refused>
     count_at(strict, s)
 }
 
-// The first pass over so many records from a place on: their count, or the refusal. It needs no sums: none is refused.
+// The first pass over so many records from a place on: their count, or the refusal. It needs no sums: none is refused. (Both passes stay functions of
+// their own: put in line in the call they kept a number in memory from digit to digit, and long numbers took 1.3 times as long.)
+#[inline(never)]
 fn walk(strict: bool, s: &[u8], count: u64, first: usize) -> Result<u64, Refused>
     ensures { result ≡ found_of (records (step_at strict s.now) (length s.now) count first start) }
 {
@@ -130,6 +132,7 @@ pub fn check(strict: bool, s: &[u8]) -> Result<u64, Refused>
 }
 
 // The second pass over records that the first accepted. Both sums start at 0.
+#[inline(never)]
 fn store(s: &[u8], count: u64, first: usize, offsets: &mut [u64], addends: &mut [i64])
     requires { Fillable (records (step_at false s.now) (length s.now) count first start) offsets.old addends.old }
     ensures { Filled (records (step_at false s.now) (length s.now) count first start) offsets.old addends.old offsets.new addends.new }

@@ -85,7 +85,9 @@ fn head_of(strict: bool, s: &[u8]) -> Result<Head, Refused>
     })
 }
 
-// The first pass over the pairs behind a head: how many offsets, or the refusal. No pair is expanded.
+// The first pass over the pairs behind a head: how many offsets, or the refusal. No pair is expanded. (Both passes stay functions of their own: put in
+// line in the call they take an eighth more instructions.)
+#[inline(never)]
 fn walk(strict: bool, s: &[u8], head: Head) -> Result<u64, Refused>
     requires { Walkable s.now head.offset head.start }
     ensures { result ≡ found_of (listed strict s.now head) }
@@ -145,6 +147,7 @@ fn fill_run(column: &mut [u64], from: usize, x: u64, c: u64, d: u64) -> usize
 }
 
 // The second pass over pairs that the first accepted, behind the first offset: none is tested again.
+#[inline(never)]
 fn store_pairs(s: &[u8], head: Head, column: &mut [u64])
     requires { Fillable (listed false s.now head) column.old × Walkable s.now head.offset head.start × Started head.offset column.old }
     ensures { Filled (listed false s.now head) column.old column.new }

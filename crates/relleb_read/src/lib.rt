@@ -2,7 +2,8 @@
 // table that the first accepted strictly too, that is the same list. The width is the class's.
 #![tactic(auto)]
 
-ghost use Rattle.std.specs.Prelude.{◌≡◌, false, length};
+ghost use Rattle.std.specs.Prelude.{◌≡◌, ◌<◌, ◌^◌, false, length};
+ghost use Rattle.std.specs.Int.Signed.{mag};
 ghost use Rattle.answer.specs.Outcome.{found_of};
 ghost use Rattle.leb128.specs.Number.{IsWidth, read_signed};
 ghost use Rattle.records.specs.Reading.{records};
@@ -44,13 +45,21 @@ fn with_addend(s: &[u8], at: usize, width: u32, now: State, symbol: u32) -> Resu
     })
 }
 
+// The symbol of a symbol field.
+fn symbol_in(field: i64) -> u32
+    requires { mag field < 2 ^ 32 }
+    ensures { result ≡ mag field }
+{
+    leb128::magnitude(field) as u32
+}
+
 // The record whose symbol field stands at a place.
 fn with_symbol(s: &[u8], at: usize, width: u32, now: State) -> Result<Entry, Refused>
     requires { IsWidth width }
     ensures { entry_step result ≡ with_symbol false width s.now now.addend now.offset now.kind (read_signed false 33 s.now at) }
 {
     let (field, past) = leb128::read_signed(false, s, at, 33)?;
-    let symbol = leb128::magnitude(field) as u32;
+    let symbol = symbol_in(field);
     if leb128::is_negative(field) {
         return with_addend(s, past, width, now, symbol);
     }

@@ -87,6 +87,7 @@ fn fill_bitmap(
 
 // The second pass, over a table of so many offsets that the first accepted. The location a word before *where* is kept, and wraps: beyond the
 // space no bitmap has a bit set. (The step is the class's. In relr_apply such a loop by `for` with a step takes a fifth more instructions.)
+#[inline(always)]
 fn fill(k: Class, s: &[u8], count: usize, column: &mut [u64])
     requires { Fillable k s.now count column.old }
     ensures { Filled k s.now column.old column.new }
@@ -111,7 +112,8 @@ fn fill(k: Class, s: &[u8], count: usize, column: &mut [u64])
     }
 }
 
-// The same for a class that two flags name, so that the compiler makes a loop for each.
+// The same for a class that two flags name: a function for each in the object code, so that where its loops lie hangs on nothing before it.
+#[inline(never)]
 fn fill_by<const WIDE: bool, const BIG: bool>(s: &[u8], count: usize, column: &mut [u64])
     requires { Fillable (flagged WIDE BIG) s.now count column.old }
     ensures { Filled (flagged WIDE BIG) s.now column.old column.new }
