@@ -1,5 +1,5 @@
--- Reading as it was before document 02's §6, without a setting: the definitions from before, to the letter, over the number readers that take
--- padded numbers.
+-- Reading as it was before document 02's §6, without a setting: the definitions from before, over the number readers that take padded numbers. (To
+-- the letter, but that a number is an Ok where it is read and an Err where it is refused.)
 -- Assumes nothing.
 use Rattle.std.specs.Prelude.{ℕ, ◌+◌, ◌%◌, ◌^◌, List, ◌≡◌, cond, leb, eqb, ℤ, pos, negsuc, ◌+ℤ◌, length}
 use Rattle.answer.specs.declared.Answer.{Answer}
