@@ -91,8 +91,8 @@ fn head_of(strict: bool, s: &[u8]) -> Result<(u64, usize), Refused>
     count_at(strict, s)
 }
 
-// The first pass over so many records from a place on: their count, or the refusal. It needs no sums: none is refused. (Both passes stay functions of
-// their own: put in line in the call they kept a number in memory from digit to digit, and long numbers took 1.3 times as long.)
+// The first pass over so many records from a place on: their count, or the refusal. It needs no sums: none is refused. (Both passes are functions of
+// their own in the object code: in line in the call they kept in memory what a digit goes by, and long numbers took 1.3 times as long.)
 #[inline(never)]
 fn walk(strict: bool, s: &[u8], count: u64, first: usize) -> Result<u64, Refused>
     ensures { result ≡ found_of (records (step_at strict s.now) (length s.now) count first start) }

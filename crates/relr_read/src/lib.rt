@@ -112,7 +112,7 @@ fn fill(k: Class, s: &[u8], count: usize, column: &mut [u64])
     }
 }
 
-// The same for a class that two flags name: a function for each in the object code, so that where its loops lie hangs on nothing before it.
+// The same for a class that two flags name: a function for each in the object code, so that where its loops lie in it hangs on no other code.
 #[inline(never)]
 fn fill_by<const WIDE: bool, const BIG: bool>(s: &[u8], count: usize, column: &mut [u64])
     requires { Fillable (flagged WIDE BIG) s.now count column.old }
